@@ -1,4 +1,5 @@
 -- The refusals and their numbers (document 01, "Numbers and bounds"). Assumes nothing.
+use mathlib.Core.Bool.{Bool, true, false}
 use Prim.Native.Nat.{ℕ}
 use Rattle.error.specs.declared.Refusal.{Refusal}
 use Rattle.error.specs.declared.Refusal.the-variants.{TooLong, BadHeader, BadBody, BadEntry, NoRoom, BadBuffer, BadBudget, BadSession, NotEncodable, NotAnEntry}
@@ -17,6 +18,11 @@ numberOf BadBudget = 7
 numberOf BadSession = 8
 numberOf NotEncodable = 9
 numberOf NotAnEntry = 10
+
+-- A test refuses what is bad.
+abbrev pub refusedIf : Bool → Refusal → Verdict
+refusedIf true r = Refused r
+refusedIf false r = Fine
 
 -- Tests in their order: the first that refuses is answered.
 abbrev pub firstOf : Verdict → Verdict → Verdict

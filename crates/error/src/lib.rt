@@ -1,6 +1,6 @@
 // The refusals: what is answered where a call can't be carried out (the Rust's `BlurayError`).
 ghost use mathlib.Core.Path.{_≡_};
-ghost use Rattle.error.specs.Rules.{numberOf, firstOf};
+ghost use Rattle.error.specs.Rules.{numberOf, refusedIf, firstOf};
 
 pub enum Refusal {
     TooLong,
@@ -42,6 +42,15 @@ impl Refusal {
 }
 
 impl Verdict {
+    pub fn refused_if(bad: bool, refusal: Refusal) -> Verdict
+        ensures { λ r. ⌜ r ≡ refusedIf bad refusal ⌝ }
+    {
+        if bad {
+            return Verdict::Refused(refusal);
+        }
+        Verdict::Fine
+    }
+
     // The first refusal of two tests made in this order.
     pub fn or_else(self, later: Verdict) -> Verdict
         ensures { λ r. ⌜ r ≡ firstOf self later ⌝ }

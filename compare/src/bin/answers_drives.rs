@@ -1,0 +1,447 @@
+//! Runs and resumes of the driver and of the runner with the Rust's answers, as `replay_drives` reads them from its
+//! standard input.
+//!
+//! First the number of cases (2 bytes) and the place of the first one (4), then the discs, then the cases; all numbers are
+//! big-endian. A disc: the lengths of its index and of its object file (2 each), then both. A case: the place of its disc
+//! (4), then its calls (1). A call is one of two.
+//! - 0 run and 1 resume of the runner, 2 run and 3 resume of the driver: the object or entry (4), budgets of steps, objects
+//!   and titles (2 each); the answer as its kind (1), two values (4 each) and an operation (2); the session's entry (4),
+//!   object and pc (2 each), both depths and pending (1 each); the live object frames (8 each) and title frames (12 each).
+//! - 4, a register that the player writes: 0 general or 1 status (1), number (2), value (4).
+//!
+//! After each call stand the registers that then hold something else than before (1, then 7 each, as written by the player).
+use mescjadro_compare::bdmv::index_bdmv::{AppInfoBdmv, IndexBdmv, IndexEntry, IndexObjectType, TitleEntry};
+use mescjadro_compare::bdmv::mobj_runner::{self, RunOutcome};
+use mescjadro_compare::bdmv::movie_object::{MovieObject, MovieObjects, NavCommand};
+use mescjadro_compare::bdmv::nav_command::Operation;
+use mescjadro_compare::bdmv::nav_driver::{self, DriveOutcome, NavDriver};
+use mescjadro_compare::bdmv::vm::{self, NavRequest, Registers};
+use mescjadro_compare::chance::Chance;
+use std::io::Write;
+
+const CASES: usize = 1200;
+const CASES_A_DISC: usize = 4;
+/// Frames of each kind that a call may leave, and those that the replay has room for.
+const DEEPEST: usize = 16;
+const OBJECT_ROOM: usize = 1024;
+const TITLE_ROOM: usize = 128;
+
+const STEPS: [u16; 10] = [0, 1, 2, 3, 5, 10, 20, 20, 60, 60];
+const OBJECTS: [u16; 10] = [0, 1, 2, 3, 4, 5, 7, 9, 12, 30];
+const TITLES: [u16; 10] = [0, 1, 2, 3, 4, 5, 7, 9, 12, 20];
+const NUMBERS: [u32; 12] = [0, 1, 2, 3, 4, 5, 65_534, 65_535, 65_536, 65_537, 65_538, 0xffff_ffff];
+const ENTRIES: [u32; 14] = [0, 1, 1, 1, 2, 2, 2, 3, 4, 65_535, 65_536, 65_536, 65_537, 65_537];
+const GENERAL: [u32; 5] = [0, 1, 2, 3, 4095];
+const STATUS: [u32; 7] = [0, 4, 4, 7, 8, 13, 128];
+
+// Discs.
+
+struct Disc {
+    index: IndexBdmv,
+    objects: MovieObjects,
+}
+
+fn register(c: &mut Chance) -> u32 {
+    if c.once_in(3) { 0x8000_0000 | c.one(&STATUS) } else { c.one(&GENERAL) }
+}
+
+fn number(c: &mut Chance) -> u32 {
+    if c.once_in(3) { c.one(&NUMBERS) } else { c.below(5) as u32 }
+}
+
+/// A command with one operand, which is mostly a number of its own.
+fn one(c: &mut Chance, rest: u32, value: u32) -> [u32; 3] {
+    if c.once_in(8) { [1 << 29 | rest, register(c), 0] } else { [1 << 29 | 1 << 23 | rest, value, 0] }
+}
+
+/// A command with two operands, of which the first is a number of its own or a register.
+fn two(c: &mut Chance, rest: u32, first: bool) -> [u32; 3] {
+    let second = c.once_in(2);
+    let a = if first { number(c) } else { register(c) };
+    let b = if second { number(c) } else { register(c) };
+    [2 << 29 | (first as u32) << 23 | (second as u32) << 22 | rest, a, b]
+}
+
+fn branch(sub_grp: u32, option: u32) -> u32 {
+    sub_grp << 24 | option << 16
+}
+
+fn compare(code: u32) -> u32 {
+    1 << 27 | code << 8
+}
+
+fn set(sub_grp: u32, code: u32) -> u32 {
+    2 << 27 | sub_grp << 24 | code
+}
+
+fn object(c: &mut Chance, objects: u64) -> u32 {
+    if c.once_in(12) { objects as u32 + number(c) } else { c.below(objects + 1 - (objects > 0) as u64) as u32 }
+}
+
+fn title(c: &mut Chance) -> u32 {
+    if c.once_in(5) { c.one(&NUMBERS) } else { 1 + c.below(3) as u32 }
+}
+
+fn command(c: &mut Chance, objects: u64) -> [u32; 3] {
+    match c.below(28) {
+        0 | 1 => {
+            let to = object(c, objects);
+            one(c, branch(1, 0), to)
+        }
+        2..=5 => {
+            let to = object(c, objects);
+            one(c, branch(1, 2), to)
+        }
+        6 | 7 => {
+            let to = title(c);
+            one(c, branch(1, 1), to)
+        }
+        8..=11 => {
+            let to = title(c);
+            one(c, branch(1, 3), to)
+        }
+        12 => [branch(1, 4), 0, 0],
+        13 => [branch(0, 2), 0, 0],
+        14 => {
+            let to = c.below(6) as u32;
+            one(c, branch(0, 1), to)
+        }
+        15..=17 => {
+            let option = c.below(3) as u32;
+            two(c, branch(2, option), true)
+        }
+        18 | 19 => {
+            let option = c.below(6) as u32;
+            two(c, branch(2, option), true)
+        }
+        20 | 21 => {
+            let code = c.below(14) as u32;
+            two(c, set(1, code), false)
+        }
+        22 | 23 => {
+            let code = c.below(8) as u32;
+            two(c, compare(code), false)
+        }
+        24 => two(c, set(0, 1), false),
+        25 => two(c, set(0, 3), false),
+        26 => [2 << 29 | 1 << 22 | set(0, 1), 0x8000_0004, number(c)],
+        _ => {
+            let code = c.below(17) as u32;
+            two(c, set(0, code), false)
+        }
+    }
+}
+
+fn nav_command(words: [u32; 3]) -> NavCommand {
+    NavCommand { bytes: words.map(u32::to_be_bytes).concat().try_into().unwrap() }
+}
+
+fn movie_object(commands: Vec<NavCommand>) -> MovieObject {
+    MovieObject { resume_intention_flag: 0, menu_call_mask: 0, title_search_mask: 0, commands }
+}
+
+fn hdmv(object: u16) -> IndexEntry {
+    IndexEntry { object: IndexObjectType::Hdmv { playback_type: 0, movie_object_id_ref: object } }
+}
+
+fn entry(c: &mut Chance, objects: u64) -> IndexEntry {
+    if c.once_in(10) {
+        let bdjo_file_name = "00000".to_string();
+        return IndexEntry { object: IndexObjectType::BdJ { playback_type: 1, bdjo_file_name } };
+    }
+    hdmv(object(c, objects) as u16)
+}
+
+fn disc_of(first_playback_title: IndexEntry, menu_title: IndexEntry, titles: Vec<IndexEntry>, objects: Vec<MovieObject>) -> Disc {
+    let app_info =
+        AppInfoBdmv { initial_output_mode_preference: 0, content_exist_flag: 0, video_format: 6, frame_rate: 1 };
+    let index = IndexBdmv { version: *b"0200", app_info, first_playback_title, menu_title, titles };
+    Disc { index, objects: MovieObjects { version: *b"0200", movie_objects: objects } }
+}
+
+fn disc(c: &mut Chance) -> Disc {
+    let count = if c.once_in(30) { 0 } else { 1 + c.below(4) };
+    let objects = (0..count)
+        .map(|_| {
+            let length = if c.once_in(8) { 0 } else { 1 + c.below(5) };
+            movie_object((0..length).map(|_| nav_command(command(c, count))).collect())
+        })
+        .collect();
+    let (first, menu) = (entry(c, count), entry(c, count));
+    let titles = (0..if c.once_in(6) { c.below(2) } else { 2 + c.below(3) }).map(|_| entry(c, count)).collect();
+    disc_of(first, menu, titles, objects)
+}
+
+/// Object 0 calls itself, object 1 jumps to title 65,537; title 1 is object 2, which plays.
+fn example_disc() -> Disc {
+    let objects = [[0x2182_0000, 0, 0], [0x2181_0000, 65_537, 0], [0x2280_0000, 7, 0]];
+    let objects = objects.map(|words| movie_object(vec![nav_command(words)])).into();
+    disc_of(hdmv(1), hdmv(0), vec![hdmv(2)], objects)
+}
+
+// Answers in numbers.
+
+fn system(op: Operation) -> u16 {
+    match op {
+        Operation::SetStream => 1,
+        Operation::SetNvTimer => 2,
+        Operation::SetButtonPage => 3,
+        Operation::EnableButton => 4,
+        Operation::DisableButton => 5,
+        Operation::SetSecondaryStream => 6,
+        Operation::PopUpOff => 7,
+        Operation::StillOn => 8,
+        Operation::StillOff => 9,
+        Operation::SetOutputMode => 10,
+        Operation::SetStreamSS => 11,
+        Operation::Unknown { sub_grp, selector } => 1000 + 256 * sub_grp as u16 + selector as u16,
+        _ => 0,
+    }
+}
+
+type Answer = (u8, u32, u32, u16);
+
+fn of_request(request: NavRequest) -> Answer {
+    match request {
+        NavRequest::JumpObject { mobj_id } => (3, mobj_id, 0, 0),
+        NavRequest::JumpTitle { title } => (4, title, 0, 0),
+        NavRequest::CallObject { mobj_id } => (5, mobj_id, 0, 0),
+        NavRequest::CallTitle { title } => (6, title, 0, 0),
+        NavRequest::Resume => (7, 0, 0, 0),
+        NavRequest::PlayPlayList { playlist } => (8, playlist, 0, 0),
+        NavRequest::PlayPlayListAtPlayItem { playlist, play_item } => (9, playlist, play_item, 0),
+        NavRequest::PlayPlayListAtMark { playlist, mark } => (10, playlist, mark, 0),
+        NavRequest::TerminatePlayList => (11, 0, 0, 0),
+        NavRequest::LinkPlayItem { play_item } => (12, play_item, 0, 0),
+        NavRequest::LinkMark { mark } => (13, mark, 0, 0),
+        NavRequest::SetSystem { op, operand1, operand2 } => (14, operand1, operand2, system(op)),
+    }
+}
+
+fn of_run(outcome: RunOutcome) -> Answer {
+    match outcome {
+        RunOutcome::Finished => (0, 0, 0, 0),
+        RunOutcome::BadObject(object) => (1, object, 0, 0),
+        RunOutcome::BudgetExhausted => (2, 0, 0, 0),
+        RunOutcome::Request(request) => of_request(request),
+    }
+}
+
+fn of_drive(outcome: DriveOutcome) -> Answer {
+    match outcome {
+        DriveOutcome::Finished => (0, 0, 0, 0),
+        DriveOutcome::BadObject(object) => (1, object, 0, 0),
+        DriveOutcome::BudgetExhausted => (2, 0, 0, 0),
+        DriveOutcome::Request(request) => of_request(request),
+        DriveOutcome::BadTitle(title) => (15, title as u32, 0, 0),
+        DriveOutcome::Play(play) => match (play.play_item, play.mark) {
+            (None, None) => (16, play.playlist, 0, 0),
+            (Some(item), None) => (16, play.playlist, item, 1),
+            (None, Some(mark)) => (16, play.playlist, mark, 2),
+            (Some(_), Some(_)) => (16, play.playlist, 0, 3),
+        },
+    }
+}
+
+fn entry_number(entry: TitleEntry) -> u32 {
+    match entry {
+        TitleEntry::Title { number } => number as u32,
+        TitleEntry::FirstPlayback => 65_536,
+        TitleEntry::TopMenu => 65_537,
+    }
+}
+
+fn entry_of(number: u32) -> TitleEntry {
+    match number {
+        65_536 => TitleEntry::FirstPlayback,
+        65_537 => TitleEntry::TopMenu,
+        number => TitleEntry::Title { number: number as u16 },
+    }
+}
+
+// Calls.
+
+enum Call {
+    Drive { kind: u8, argument: u32, steps: u16, objects: u16, titles: u16 },
+    Write { status: bool, index: u16, value: u32 },
+}
+
+/// A case's calls: of the runner, of the driver, or of both (the driver's runner is a fresh one too).
+fn calls(c: &mut Chance, disc: &Disc) -> Vec<Call> {
+    let objects = disc.objects.movie_objects.len() as u64;
+    let who = c.below(10);
+    let count = 2 + c.below(5);
+    let mut calls: Vec<Call> = Vec::new();
+    for i in 0..count {
+        if i > 0 && c.once_in(3) {
+            let status = c.once_in(2);
+            let index = if status { c.one(&STATUS) } else { c.one(&GENERAL) } as u16;
+            calls.push(Call::Write { status, index, value: number(c) });
+        }
+        let runner = who == 0 || (who <= 2 && c.once_in(3));
+        let resume = if i == 0 { c.once_in(20) } else { !c.once_in(4) };
+        // The Rust's runner cannot resume on a disc without objects.
+        let resume = resume && !(runner && objects == 0);
+        let argument = match (runner, resume) {
+            (_, true) => 0,
+            (true, false) => object(c, objects),
+            (false, false) => c.one(&ENTRIES),
+        };
+        let kind = 2 * !runner as u8 + resume as u8;
+        let (steps, objects, titles) = (c.one(&STEPS), c.one(&OBJECTS), c.one(&TITLES));
+        calls.push(Call::Drive { kind, argument, steps, objects, titles });
+    }
+    calls
+}
+
+fn registers(driver: &NavDriver) -> Vec<u32> {
+    let registers: &Registers = driver.registers();
+    [&vm::probe::general(registers)[..], &vm::probe::status(registers)[..]].concat()
+}
+
+fn put_changes(out: &mut Vec<u8>, before: &[u32], now: &[u32]) {
+    let changed: Vec<usize> = (0..now.len()).filter(|&i| now[i] != before[i]).collect();
+    out.push(changed.len().try_into().unwrap());
+    for i in changed {
+        out.push((i >= 4096) as u8);
+        out.extend(((i % 4096) as u16).to_be_bytes());
+        out.extend(now[i].to_be_bytes());
+    }
+}
+
+/// The session that a call left, and its live frames; none where there are more of them than the list takes.
+fn put_session(out: &mut Vec<u8>, driver: &NavDriver) -> Option<()> {
+    let runner = nav_driver::probe::runner(driver);
+    let frames = mobj_runner::probe::frames(runner);
+    let titles = nav_driver::probe::frames(driver);
+    if frames.len() > DEEPEST || titles.len() > DEEPEST {
+        return None;
+    }
+    out.extend(entry_number(driver.current_entry()).to_be_bytes());
+    out.extend(u16::try_from(runner.current_object()).unwrap().to_be_bytes());
+    out.extend(u16::try_from(runner.vm.pc()).unwrap().to_be_bytes());
+    out.extend([frames.len() as u8, titles.len() as u8, nav_driver::probe::pending(driver) as u8]);
+    for (object, pc) in frames {
+        out.extend((object as u32).to_be_bytes());
+        out.extend((pc as u32).to_be_bytes());
+    }
+    for (entry, object, pc) in titles {
+        out.extend(entry_number(entry).to_be_bytes());
+        out.extend((object as u32).to_be_bytes());
+        out.extend((pc as u32).to_be_bytes());
+    }
+    Some(())
+}
+
+fn make(driver: &mut NavDriver, call: &Call, out: &mut Vec<u8>, seen: &mut [usize]) -> Option<()> {
+    match *call {
+        Call::Write { status, index, value } => {
+            if status {
+                driver.registers_mut().set_psr_player(index as u8, value);
+            } else {
+                driver.registers_mut().set_gpr(index, value);
+            }
+            out.extend([4, status as u8]);
+            out.extend(index.to_be_bytes());
+            out.extend(value.to_be_bytes());
+            seen[4] += 1;
+        }
+        Call::Drive { kind, argument, steps, objects, titles } => {
+            // At most so many frames can be live during the call.
+            assert!(DEEPEST + objects as usize * (titles as usize + 1) <= OBJECT_ROOM);
+            assert!(DEEPEST + titles as usize <= TITLE_ROOM);
+            driver.set_title_budget(titles as u64);
+            let waited = nav_driver::probe::pending(driver);
+            let runner = nav_driver::probe::runner_mut(driver);
+            mobj_runner::probe::set_budgets(runner, steps as u64, objects as u64);
+            let (answer, a, b, op) = match kind {
+                0 => of_run(runner.run(argument as usize)),
+                1 => of_run(runner.resume()),
+                2 => of_drive(driver.run(entry_of(argument))),
+                _ => of_drive(driver.resume()),
+            };
+            out.push(kind);
+            out.extend(argument.to_be_bytes());
+            out.extend([steps, objects, titles].map(u16::to_be_bytes).concat());
+            out.push(answer);
+            out.extend(a.to_be_bytes());
+            out.extend(b.to_be_bytes());
+            out.extend(op.to_be_bytes());
+            put_session(out, driver)?;
+            seen[kind as usize] += 1;
+            seen[5] += (kind == 3 && waited) as usize;
+            seen[8 + answer as usize] += 1;
+        }
+    }
+    Some(())
+}
+
+/// A case, or none where it leaves too many frames, or resumes the driver too often with nothing pending.
+fn case(disc: &Disc, place: u32, calls: &[Call], idle: usize, seen: &mut Vec<usize>) -> Option<Vec<u8>> {
+    let mut out = place.to_be_bytes().to_vec();
+    out.push(calls.len().try_into().unwrap());
+    let mut driver = NavDriver::new(&disc.index, &disc.objects);
+    let mut counted = seen.clone();
+    for call in calls {
+        let before = registers(&driver);
+        make(&mut driver, call, &mut out, &mut counted)?;
+        put_changes(&mut out, &before, &registers(&driver));
+    }
+    if counted[3] - counted[5] > seen[3] - seen[5] + idle {
+        return None;
+    }
+    *seen = counted;
+    Some(out)
+}
+
+/// Stores a disc, and hands back its place and how the Rust reads it.
+fn put_disc(discs: &mut Vec<u8>, disc: Disc) -> (u32, Disc) {
+    let place = 6 + discs.len() as u32;
+    let (index, objects) = (disc.index.encode(), disc.objects.encode());
+    discs.extend((index.len() as u16).to_be_bytes());
+    discs.extend((objects.len() as u16).to_be_bytes());
+    discs.extend(&index);
+    discs.extend(&objects);
+    (place, Disc { index: IndexBdmv::parse(&index).unwrap(), objects: MovieObjects::parse(&objects).unwrap() })
+}
+
+/// Document 01's: an object budget of 0 meets CallObject 0, and JumpTitle 65,537 goes to title 1.
+fn examples() -> [Vec<Call>; 2] {
+    let call = |kind, argument, objects| vec![Call::Drive { kind, argument, steps: 10, objects, titles: 10 }];
+    [call(0, 0, 0), call(2, 65_536, 10)]
+}
+
+fn main() {
+    let mut c = Chance(0x6472_6976_6573);
+    let (mut discs, mut cases) = (Vec::new(), Vec::new());
+    let mut seen = vec![0; 25];
+    let (place, disc_read) = put_disc(&mut discs, example_disc());
+    for calls in examples() {
+        cases.push(case(&disc_read, place, &calls, 0, &mut seen).unwrap());
+    }
+    // Answer, object, pc and depth of the one; answer, PlayList and entry of the other.
+    assert_eq!((cases[0][16], &cases[0][31..36]), (2, &[0, 0, 0, 1, 0][..]));
+    assert_eq!((cases[1][16], &cases[1][17..21], &cases[1][27..31]), (16, &[0, 0, 0, 7][..], &[0, 0, 0, 1][..]));
+    while cases.len() < CASES {
+        let (place, disc_read) = put_disc(&mut discs, disc(&mut c));
+        let mut left = CASES_A_DISC;
+        for _ in 0..40 {
+            let (calls, idle) = (calls(&mut c, &disc_read), c.once_in(3) as usize);
+            let made = case(&disc_read, place, &calls, idle, &mut seen);
+            left -= made.is_some() as usize;
+            cases.extend(made);
+            if left == 0 || cases.len() == CASES {
+                break;
+            }
+        }
+    }
+    let mut out = (CASES as u16).to_be_bytes().to_vec();
+    out.extend((6 + discs.len() as u32).to_be_bytes());
+    out.extend(discs);
+    out.extend(cases.concat());
+    assert!(out.len() < 300_000, "{} bytes", out.len());
+    eprintln!("runner: {} runs, {} resumes; {} writes by the player", seen[0], seen[1], seen[4]);
+    eprintln!("driver: {} runs, {} resumes, {} of them pending", seen[2], seen[3], seen[5]);
+    eprintln!("answers by kind: {:?}", &seen[8..]);
+    std::io::stdout().write_all(&out).expect("standard output");
+}

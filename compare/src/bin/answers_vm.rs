@@ -1,0 +1,190 @@
+//! Cases for the command machine with the Rust's answers, as `replay_vm` reads them from its standard input.
+//!
+//! A case: the number of commands (2 bytes), pc and step budget (4 each), registers to set (1, then 7 each: 0 general or 1
+//! status, number, value), the commands, calls (1, then 18 each: 0 a step or 1 a run, then the answer in five numbers), and
+//! the registers that then hold something else (2, then 7 each). All numbers are big-endian; the number of cases stands first.
+use mescjadro_compare::bdmv::movie_object::NavCommand;
+use mescjadro_compare::bdmv::nav_command::Operation;
+use mescjadro_compare::bdmv::vm::{HdmvVm, NavRequest, Step, probe};
+use mescjadro_compare::chance::Chance;
+use std::io::Write;
+
+const CASES: u16 = 1200;
+const GENERAL: [u32; 6] = [0, 1, 2, 3, 5, 4095];
+const STATUS: [u32; 18] = [0, 4, 7, 8, 9, 10, 12, 13, 14, 15, 20, 36, 40, 42, 44, 61, 127, 128];
+const VALUES: [u32; 14] = [0, 1, 2, 3, 5, 7, 31, 32, 33, 255, 4096, 0x7fff_ffff, 0x8000_0000, 0xffff_ffff];
+
+/// The word of an operand that names a register.
+fn register(c: &mut Chance) -> u32 {
+    match c.below(6) {
+        0..=2 => c.one(&GENERAL) | if c.once_in(6) { 0x7000 } else { 0 },
+        3 | 4 => 0x8000_0000 | c.one(&STATUS),
+        _ => 0xc000_0000 | c.one(&STATUS) | if c.once_in(4) { 0x300 } else { 0 },
+    }
+}
+
+fn operand(c: &mut Chance, immediate: bool) -> u32 {
+    if immediate { c.one(&VALUES) } else { register(c) }
+}
+
+fn count(c: &mut Chance) -> u32 {
+    match c.below(10) {
+        0 => 0,
+        1 => 1,
+        2 => c.below(8) as u32,
+        _ => 2,
+    }
+}
+
+/// A command: jumps, compares, swaps and protected registers come up often.
+fn command(c: &mut Chance, commands: usize) -> [u32; 3] {
+    let (first, second) = (c.once_in(8), c.once_in(2));
+    let head = count(c) << 29 | (first as u32) << 23 | (second as u32) << 22;
+    let words = |c: &mut Chance| [operand(c, first), operand(c, second)];
+    let rest = match c.below(20) {
+        0 | 1 => {
+            let target = c.below(commands as u64 + 1) as u32;
+            return [1 << 29 | 0x0081_0000, target, 0];
+        }
+        2 => (c.below(4) as u32) << 24 | (c.below(8) as u32) << 16,
+        3 => 0x0100_0000 | (c.below(6) as u32) << 16,
+        4..=7 => 1 << 27 | (c.below(10) as u32) << 8,
+        8 => 1 << 27 | (c.below(8) as u32) << 24 | (c.below(256) as u32) << 8,
+        9..=11 => 2 << 27 | 2,
+        12..=17 => 2 << 27 | c.below(17) as u32,
+        18 => 2 << 27 | (c.below(3) as u32) << 24 | c.below(20) as u32,
+        _ => (c.below(4) as u32) << 27 | (c.word() & 0x070f_ffff),
+    };
+    let [a, b] = words(c);
+    [head | rest, a, b]
+}
+
+fn system(op: Operation) -> u32 {
+    match op {
+        Operation::SetStream => 1,
+        Operation::SetNvTimer => 2,
+        Operation::SetButtonPage => 3,
+        Operation::EnableButton => 4,
+        Operation::DisableButton => 5,
+        Operation::SetSecondaryStream => 6,
+        Operation::PopUpOff => 7,
+        Operation::StillOn => 8,
+        Operation::StillOff => 9,
+        Operation::SetOutputMode => 10,
+        Operation::SetStreamSS => 11,
+        Operation::Unknown { sub_grp, selector } => 1000 + 256 * sub_grp as u32 + selector as u32,
+        _ => 0,
+    }
+}
+
+fn numbers(step: Step) -> [u32; 4] {
+    let Step::Branch(request) = step else {
+        return match step {
+            Step::Continue => [0, 0, 0, 0],
+            Step::Skipped => [1, 0, 0, 0],
+            _ => [2, 0, 0, 0],
+        };
+    };
+    match request {
+        NavRequest::JumpObject { mobj_id } => [3, mobj_id, 0, 0],
+        NavRequest::JumpTitle { title } => [4, title, 0, 0],
+        NavRequest::CallObject { mobj_id } => [5, mobj_id, 0, 0],
+        NavRequest::CallTitle { title } => [6, title, 0, 0],
+        NavRequest::Resume => [7, 0, 0, 0],
+        NavRequest::PlayPlayList { playlist } => [8, playlist, 0, 0],
+        NavRequest::PlayPlayListAtPlayItem { playlist, play_item } => [9, playlist, play_item, 0],
+        NavRequest::PlayPlayListAtMark { playlist, mark } => [10, playlist, mark, 0],
+        NavRequest::TerminatePlayList => [11, 0, 0, 0],
+        NavRequest::LinkPlayItem { play_item } => [12, play_item, 0, 0],
+        NavRequest::LinkMark { mark } => [13, mark, 0, 0],
+        NavRequest::SetSystem { op, operand1, operand2 } => [14, operand1, operand2, system(op)],
+    }
+}
+
+fn entry(out: &mut Vec<u8>, kind: u8, index: u16, value: u32) {
+    out.push(kind);
+    out.extend(index.to_be_bytes());
+    out.extend(value.to_be_bytes());
+}
+
+fn case(c: &mut Chance, out: &mut Vec<u8>) {
+    let length = if c.once_in(10) { c.below(2) } else { 2 + c.below(7) } as usize;
+    let commands: Vec<NavCommand> = (0..length)
+        .map(|_| {
+            let words = command(c, length).map(u32::to_be_bytes);
+            NavCommand { bytes: words.concat().try_into().unwrap() }
+        })
+        .collect();
+    let pc = if c.once_in(8) { c.below(length as u64 + 3) as usize } else { 0 };
+    let budget = if c.once_in(6) { c.below(3) } else { c.below(40) };
+    let mut vm = HdmvVm::new();
+    vm.set_pc(pc);
+    vm.set_step_budget(budget);
+    out.extend((length as u16).to_be_bytes());
+    out.extend((pc as u32).to_be_bytes());
+    out.extend((budget as u32).to_be_bytes());
+    let sets = 5 + c.below(6) as u8;
+    out.push(sets);
+    for _ in 0..sets {
+        let value = c.one(&VALUES[1..]);
+        if c.once_in(2) {
+            let index = c.one(&GENERAL) as u16;
+            vm.registers.set_gpr(index, value);
+            entry(out, 0, index, value);
+        } else {
+            let index = c.one(&STATUS) as u16;
+            vm.registers.set_psr_player(index as u8, value);
+            entry(out, 1, index, value);
+        }
+    }
+    for command in &commands {
+        out.extend(command.bytes);
+    }
+    let general = *probe::general(&vm.registers);
+    let status = *probe::status(&vm.registers);
+    let most = 2 + c.below(9);
+    let mut calls = Vec::new();
+    let mut made = 0;
+    for i in 1..=most {
+        let run = i == most || c.once_in(12);
+        let step = if run { vm.run(&commands) } else { vm.step(&commands) };
+        let [kind, a, b, op] = numbers(step);
+        calls.extend([run as u8, kind as u8]);
+        for number in [a, b, op, vm.pc() as u32] {
+            calls.extend(number.to_be_bytes());
+        }
+        made += 1;
+        if step == Step::Halted && !c.once_in(4) {
+            break;
+        }
+    }
+    out.push(made);
+    out.extend(calls);
+    let mut changed = Vec::new();
+    for i in 0..4096u16 {
+        let now = probe::general(&vm.registers)[i as usize];
+        if now != general[i as usize] {
+            changed.push((0, i, now));
+        }
+    }
+    for i in 0..128u16 {
+        let now = probe::status(&vm.registers)[i as usize];
+        if now != status[i as usize] {
+            changed.push((1, i, now));
+        }
+    }
+    out.extend((changed.len() as u16).to_be_bytes());
+    for (kind, index, value) in changed {
+        entry(out, kind, index, value);
+    }
+}
+
+fn main() {
+    let mut chance = Chance(0x6d65_7363_6a61);
+    let mut out = CASES.to_be_bytes().to_vec();
+    for _ in 0..CASES {
+        case(&mut chance, &mut out);
+    }
+    assert!(out.len() < 300_000, "{} bytes", out.len());
+    std::io::stdout().write_all(&out).expect("standard output");
+}

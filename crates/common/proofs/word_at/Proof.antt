@@ -1,0 +1,23 @@
+use native.Mathlib.Omega.{arith}
+use borrow.Author.Needs.{needs}
+use Rattle.common.specs.Rules.{be4}
+use Rattle.common.proofs.word_at.Statement.{statement}
+use Rattle.common.proofs.word_at.Tie as tie
+
+returns : tie.Need-returns
+unfolding be4
+returns c = omega (arith, c .join32 .ensures, c .before .before .before .before .byte-at .ensures, c .before .before .before .byte-at2 .ensures, c .before .before .byte-at3 .ensures, c .before .byte-at4 .ensures)
+
+pub word-at-spec : {M : Type 1} → statement M
+word-at-spec =
+    tie.close
+    (tie.spec
+    (λ c κs. search needs)
+    (λ c. search needs)
+    (λ c κs. search needs)
+    (λ c. search needs)
+    (λ c κs. search needs)
+    (λ c. search needs)
+    (λ c κs. search needs)
+    (λ c κs. search needs)
+    returns)

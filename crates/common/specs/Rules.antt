@@ -1,0 +1,67 @@
+-- Big-endian reads at a position, and the test that every file of the disc begins with (document 01, module 2 and "Numbers and bounds").
+-- Assumes nothing.
+use mathlib.Core.Path.{_≡_}
+use mathlib.Core.Bool.{Bool, true, false, cond}
+use mathlib.Core.List.{List, [], _∷_}
+use Prim.Native.Nat.{ℕ, _+_, _*_, _/_, _%_, _≤_, _<_}
+use lib.Dec.{leb, ltb, eqb}
+use lib.ListN.{length, getD}
+use Rattle.error.specs.declared.Refusal.the-variants.{TooLong, BadHeader, BadBody}
+use Rattle.error.specs.declared.Verdict.{Verdict}
+use Rattle.error.specs.declared.Verdict.the-variants as verdict
+use Rattle.common.specs.declared.Reader.{Reader}
+use Rattle.common.specs.declared.Moved.{Moved}
+use Rattle.common.specs.declared.Moved.the-variants as moved
+use Rattle.common.specs.declared.Byte.{Byte}
+use Rattle.common.specs.declared.Byte.the-variants as byte
+use Rattle.common.specs.declared.Half.{Half}
+use Rattle.common.specs.declared.Half.the-variants as half
+use Rattle.common.specs.declared.Word.{Word}
+use Rattle.common.specs.declared.Word.the-variants as word
+
+-- The big-endian number of the two, or of the four, bytes at a place; bytes past the end count as 0.
+unfoldable pub be2 : List ℕ → ℕ → ℕ
+be2 s at = getD s at 0 * 256 + getD s (at + 1) 0
+
+unfoldable pub be4 : List ℕ → ℕ → ℕ
+be4 s at = getD s at 0 * 16777216 + getD s (at + 1) 0 * 65536 + getD s (at + 2) 0 * 256 + getD s (at + 3) 0
+
+-- A number as big-endian bytes.
+unfoldable pub bytes2 : ℕ → List ℕ
+bytes2 x = (x / 256 % 256) ∷ (x % 256) ∷ []
+
+unfoldable pub bytes4 : ℕ → List ℕ
+bytes4 x = (x / 16777216 % 256) ∷ (x / 65536 % 256) ∷ (x / 256 % 256) ∷ (x % 256) ∷ []
+
+abbrev pub reader : ℕ → Reader
+reader n = record { pos = n }
+
+-- A seek to the end is allowed, one past it refused.
+abbrev pub seekOf : List ℕ → ℕ → Moved
+seekOf s to = cond (leb to (length s)) (moved.To (reader to)) (moved.Refused BadBody)
+
+-- A read gives the value with the next position, or is refused where it passes the end.
+abbrev pub readU8 : List ℕ → ℕ → Byte
+readU8 s at = cond (leb (at + 1) (length s)) (byte.Value (getD s at 0) (reader (at + 1))) (byte.Refused BadBody)
+
+abbrev pub readU16 : List ℕ → ℕ → Half
+readU16 s at = cond (leb (at + 2) (length s)) (half.Value (be2 s at) (reader (at + 2))) (half.Refused BadBody)
+
+abbrev pub readU32 : List ℕ → ℕ → Word
+readU32 s at = cond (leb (at + 4) (length s)) (word.Value (be4 s at) (reader (at + 4))) (word.Refused BadBody)
+
+-- A file has at most 16,777,216 bytes.
+abbrev pub limit : ℕ
+limit = 16777216
+
+-- 1 too long: over the limit. 2 bad header: under 40 bytes, or not the kind that is asked for (four letters, as a number).
+unfoldable pub headerOf : ℕ → List ℕ → Verdict
+headerOf kind s =
+    cond (ltb limit (length s)) (verdict.Refused TooLong)
+    (cond (ltb (length s) 40) (verdict.Refused BadHeader)
+    (cond (eqb (be4 s 0) kind) verdict.Fine (verdict.Refused BadHeader)))
+
+-- r says whether a is at most b
+pub record AtMost (a b : ℕ) (r : Bool) : Type 0 where
+  pub yes : r ≡ true → a ≤ b
+  pub no : r ≡ false → b < a

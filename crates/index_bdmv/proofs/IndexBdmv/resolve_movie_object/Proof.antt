@@ -1,0 +1,18 @@
+use mathlib.Core.Path.{sym, _∙_}
+use borrow.Author.Needs.{needs}
+use Rattle.index_bdmv.specs.Rules.{resolveMovieObject}
+use Rattle.index_bdmv.proofs.IndexBdmv.resolve_movie_object.Statement.{statement}
+use Rattle.index_bdmv.proofs.IndexBdmv.resolve_movie_object.Tie as tie
+
+returns : tie.Need-returns
+unfolding resolveMovieObject
+returns c = rw (sym (c .before .before .before .asked .ensures) ∙ c .before .found .given .1)
+
+returns-2 : tie.Need-returns-2
+unfolding resolveMovieObject
+returns-2 c = rw (sym (c .before .before .before .asked .ensures) ∙ c .before .enum-told .given .1, c .resolve .ensures)
+
+pub resolve-movie-object-spec : {M : Type 1} → statement M
+resolve-movie-object-spec =
+    tie.close
+    (tie.spec (λ c κs. search needs) (λ c. search needs) (λ c. search needs) (λ c κs. search needs) returns returns-2)

@@ -1,0 +1,34 @@
+-- The tests in their order, each rewritten by what it found. Assumes nothing.
+use mathlib.Core.Path.{sym, _∙_}
+use borrow.Author.Needs.{needs}
+use Rattle.index_bdmv.specs.Rules.{verdictOf, startOf}
+use Rattle.index_bdmv.proofs.verdict.Statement.{statement}
+use Rattle.index_bdmv.proofs.verdict.Tie as tie
+
+returns : tie.Need-returns
+unfolding verdictOf
+returns c = rw (sym (c .before .before .header .ensures) ∙ c .enum-told2 .given .1) (c .enum-told2 .given .1)
+
+returns-2 : tie.Need-returns-2
+unfolding verdictOf
+returns-2 c = rw (sym (c .before .before .before .before .before .header .ensures) ∙ c .before .before .before .enum-told .given .1, sym (c .before .before .app-info-verdict .ensures) ∙ c .enum-told4 .given .1) (c .enum-told4 .given .1)
+
+returns-3 : tie.Need-returns-3
+unfolding verdictOf startOf
+returns-3 c = rw (sym (c .before .before .before .before .before .before .before .header .ensures) ∙ c .before .before .before .before .before .enum-told .given .1, sym (c .before .before .before .before .app-info-verdict .ensures) ∙ c .before .before .enum-told3 .given .1) (c .indexes-verdict .ensures ∙ rw (c .before .word-at .ensures))
+
+pub verdict-spec : {M : Type 1} → statement M
+verdict-spec =
+    tie.close
+    (tie.spec
+    (λ c κs. search needs)
+    (λ c. search needs)
+    (λ c. search needs)
+    returns
+    (λ c κs. search needs)
+    (λ c. search needs)
+    (λ c. search needs)
+    returns-2
+    (λ c κs. search needs)
+    (λ c κs. search needs)
+    returns-3)

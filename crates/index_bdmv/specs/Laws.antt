@@ -1,0 +1,156 @@
+-- Laws of the verdict, and where the entries of an accepted file stand. Assumes nothing.
+use mathlib.Core.Path.{_≡_, refl, sym, _∙_, ap}
+use mathlib.Core.Bool.{Bool, true, false, cond}
+use mathlib.Core.List.{List}
+use Prim.Native.Nat.{ℕ, zero, suc, _+_, _*_, _-_, _≤_, _<_}
+use native.Mathlib.Nat.{add-zero, add-suc, add-sub-of-le}
+use native.Mathlib.Numerals.{add-one}
+use native.Mathlib.Omega.{arith}
+use lib.Dec.{leb, eqb}
+use lib.ListN.{length}
+use borrow.Author.Tests.{le-leb, lt-leb, leb-true, leb-false, eq-eqb, ne-eqb, eqb-true, eqb-false}
+use Rattle.common.specs.Rules.{be2, headerOf}
+use Rattle.common.specs.Laws.{Headed, headed}
+use Rattle.error.specs.Rules.{firstOf}
+use Rattle.error.specs.declared.Refusal.{Refusal}
+use Rattle.error.specs.declared.Refusal.the-variants.{BadBody}
+use Rattle.error.specs.declared.Verdict.{Verdict}
+use Rattle.error.specs.declared.Verdict.the-variants.{Fine, Refused}
+use Rattle.index_bdmv.specs.Rules.{indx, appInfoVerdict, entryVerdict, entriesVerdict, startOf, statedVerdict, titlesVerdict, indexesVerdict, verdictOf, titleCount, placeOf}
+use Rattle.index_bdmv.specs.declared.Place.{Place}
+use Rattle.index_bdmv.specs.declared.Place.the-variants.{At, Nowhere}
+
+-- ---- tests in their order
+
+-- where both are fine, each is
+pub both-fine : (a b : Verdict) → firstOf a b ≡ Fine → (a ≡ Fine) × (b ≡ Fine)
+both-fine Fine b e = (refl, e)
+both-fine (Refused r) b e = let z : _≡_ {A = ℕ} 0 1 = cc in absurd (omega arith)
+
+-- a test that passes before one that refuses
+yes-fine : (t : Bool) (a b : Verdict) (r : Refusal) → b ≡ Refused r → cond t a b ≡ Fine → (t ≡ true) × (a ≡ Fine)
+yes-fine true a b r n e = (refl, e)
+yes-fine false a b r n e = let z : _≡_ {A = ℕ} 0 1 = cc in absurd (omega arith)
+
+-- ---- entries
+
+pub entry-in : (s : List ℕ) (at : ℕ) → entryVerdict s at ≡ Fine → at + 12 ≤ length s
+unfolding entryVerdict
+entry-in s at e = leb-true _ _ (yes-fine (leb (at + 12) (length s)) _ (Refused BadBody) BadBody refl e .0)
+
+-- one entry more
+pub entries-more : (s : List ℕ) (at n : ℕ) → entriesVerdict s at n ≡ Fine → entriesVerdict s at (n + 1) ≡ entryVerdict s (at + 12 * n)
+unfolding entriesVerdict
+entries-more s at n e = rw (add-one n) (rw e)
+
+-- a refusal stays the first
+stays : (s : List ℕ) (at n m : ℕ) (r : Refusal) → entriesVerdict s at n ≡ Refused r → entriesVerdict s at (n + m) ≡ Refused r
+unfolding entriesVerdict
+stays s at n zero r e = rw (add-zero n) e
+stays s at n (suc m) r e = rw (add-suc n m) (rw (stays s at n m r e))
+
+pub entries-refused : (s : List ℕ) (at k n : ℕ) (r : Refusal) → k < n → entriesVerdict s at k ≡ Fine → entryVerdict s (at + 12 * k) ≡ Refused r → entriesVerdict s at n ≡ Refused r
+entries-refused s at k n r h f e =
+    ap (entriesVerdict s at) (sym (add-sub-of-le (omega arith))) ∙ stays s at (k + 1) (n - (k + 1)) r (entries-more s at k f ∙ e)
+
+-- where all are fine, each is
+pub entries-fine : (s : List ℕ) (at n k : ℕ) → entriesVerdict s at n ≡ Fine → k < n → entryVerdict s (at + 12 * k) ≡ Fine
+unfolding entriesVerdict
+entries-fine s at zero k e h = absurd (omega arith)
+entries-fine s at (suc n) k e h =
+    let t = both-fine (entriesVerdict s at n) (entryVerdict s (at + 12 * n)) e in
+    go (t .1) (entries-fine s at n k (t .0)) (eqb k n) refl
+  where
+    go : entryVerdict s (at + 12 * n) ≡ Fine → (k < n → entryVerdict s (at + 12 * k) ≡ Fine) → (b : Bool) → eqb k n ≡ b → entryVerdict s (at + 12 * k) ≡ Fine
+    go here earlier true q = ap (λ (i : ℕ). entryVerdict s (at + 12 * i)) (eqb-true k n q) ∙ here
+    go here earlier false q = earlier (let d = eqb-false k n q in omega (arith, d))
+
+-- and where each is fine, all are
+pub entries-made : (s : List ℕ) (at n : ℕ) → ((k : ℕ) → k < n → entryVerdict s (at + 12 * k) ≡ Fine) → entriesVerdict s at n ≡ Fine
+unfolding entriesVerdict
+entries-made s at zero h = refl
+entries-made s at (suc n) h = rw (entries-made s at n (λ k p. h k (omega arith)), h n (omega arith))
+
+-- ---- the whole file
+
+-- what an accepted file has
+pub record Good (s : List ℕ) : Type 0 where
+  pub head : Headed indx s
+  pub app : appInfoVerdict s ≡ Fine
+  pub special : entriesVerdict s (startOf s + 4) 2 ≡ Fine
+  pub number : startOf s + 30 ≤ length s
+  pub titles : entriesVerdict s (startOf s + 30) (titleCount s) ≡ Fine
+
+pub good : (s : List ℕ) → verdictOf s ≡ Fine → Good s
+unfolding verdictOf indexesVerdict titlesVerdict titleCount
+good s v =
+    let h = both-fine (headerOf indx s) (firstOf (appInfoVerdict s) (indexesVerdict s (startOf s))) v in
+    let a = both-fine (appInfoVerdict s) (indexesVerdict s (startOf s)) (h .1) in
+    let i = both-fine (statedVerdict s (startOf s)) (firstOf (entriesVerdict s (startOf s + 4) 2) (titlesVerdict s (startOf s))) (a .1) in
+    let t = both-fine (entriesVerdict s (startOf s + 4) 2) (titlesVerdict s (startOf s)) (i .1) in
+    let n = yes-fine (leb (startOf s + 30) (length s)) (entriesVerdict s (startOf s + 30) (be2 s (startOf s + 28))) (Refused BadBody) BadBody refl (t .1) in
+    record { head = headed indx s (h .0); app = a .0; special = t .0; number = leb-true _ _ (n .0); titles = n .1 }
+
+-- ---- where an entry stands
+
+-- the place that a selection found; it is a small number, whatever the file
+pub record Selected (s : List ℕ) (e : ℕ) (r : Place) : Type 0 where
+  pub is : r ≡ placeOf s e
+  pub near : (at : ℕ) → r ≡ At at → at ≤ 8589934592
+
+module _ (s : List ℕ) (e : ℕ) where
+  pub selected-at : (n : ℕ) → placeOf s e ≡ At n → n ≤ 8589934592 → Selected s e (At n)
+  selected-at n p h = record { is = sym p; near = λ at q. let m : n ≡ at = cc in omega arith }
+
+  pub selected-none : placeOf s e ≡ Nowhere → Selected s e Nowhere
+  selected-none p = record { is = sym p; near = λ at q. let z : _≡_ {A = ℕ} 0 1 = cc in absurd (omega arith) }
+
+  pub place-first : e ≡ 65536 → placeOf s e ≡ At (startOf s + 4)
+  unfolding placeOf
+  place-first p = simp (eq-eqb e 65536 p)
+
+  pub place-menu : (e ≡ 65536 → ⊥) → e ≡ 65537 → placeOf s e ≡ At (startOf s + 16)
+  unfolding placeOf
+  place-menu n p = simp (ne-eqb e 65536 n, eq-eqb e 65537 p)
+
+  pub place-zero : e ≡ 0 → placeOf s e ≡ Nowhere
+  unfolding placeOf
+  place-zero p = simp (ne-eqb e 65536 (λ q. omega arith), ne-eqb e 65537 (λ q. omega arith), eq-eqb e 0 p)
+
+  pub place-title : (e ≡ 65536 → ⊥) → (e ≡ 65537 → ⊥) → (e ≡ 0 → ⊥) → e ≤ titleCount s → placeOf s e ≡ At (startOf s + 18 + 12 * e)
+  unfolding placeOf
+  place-title n m z h = simp (ne-eqb e 65536 n, ne-eqb e 65537 m, ne-eqb e 0 z, le-leb e (titleCount s) h)
+
+  pub place-past : (e ≡ 65536 → ⊥) → (e ≡ 65537 → ⊥) → (e ≡ 0 → ⊥) → titleCount s < e → placeOf s e ≡ Nowhere
+  unfolding placeOf
+  place-past n m z h = simp (ne-eqb e 65536 n, ne-eqb e 65537 m, ne-eqb e 0 z, lt-leb e (titleCount s) h)
+
+  -- every entry of an accepted file lies within it
+  pub place-in : verdictOf s ≡ Fine → (at : ℕ) → placeOf s e ≡ At at → at + 12 ≤ length s
+  place-in v at p = go (eqb e 65536) refl (eqb e 65537) refl (eqb e 0) refl (leb e (titleCount s)) refl
+    where
+      g : Good s
+      g = good s v
+
+      told : (n : ℕ) → placeOf s e ≡ At n → at ≡ n
+      told n q = cc
+
+      never : placeOf s e ≡ Nowhere → at + 12 ≤ length s
+      never q = let z : _≡_ {A = ℕ} 0 1 = cc in absurd (omega arith)
+
+      go : (a : Bool) → eqb e 65536 ≡ a → (b : Bool) → eqb e 65537 ≡ b → (z : Bool) → eqb e 0 ≡ z → (t : Bool) → leb e (titleCount s) ≡ t → at + 12 ≤ length s
+      go true qa b qb z qz t qt =
+          omega (arith, told _ (place-first (eqb-true _ _ qa)), entry-in s (startOf s + 4 + 12 * 0) (entries-fine s (startOf s + 4) 2 0 (g .special) (omega arith)))
+      go false qa true qb z qz t qt =
+          omega (arith, told _ (place-menu (eqb-false _ _ qa) (eqb-true _ _ qb)), entry-in s (startOf s + 4 + 12 * 1) (entries-fine s (startOf s + 4) 2 1 (g .special) (omega arith)))
+      go false qa false qb true qz t qt = never (place-zero (eqb-true _ _ qz))
+      go false qa false qb false qz false qt = never (place-past (eqb-false _ _ qa) (eqb-false _ _ qb) (eqb-false _ _ qz) (leb-false _ _ qt))
+      go false qa false qb false qz true qt =
+          let n = eqb-false _ _ qz in
+          let h = leb-true e (titleCount s) qt in
+          omega (
+            arith,
+            told _ (place-title (eqb-false _ _ qa) (eqb-false _ _ qb) n h),
+            n,
+            entry-in s (startOf s + 30 + 12 * (e - 1)) (entries-fine s (startOf s + 30) (titleCount s) (e - 1) (g .titles) (omega (arith, n))),
+          )

@@ -1,0 +1,45 @@
+use mathlib.Core.Path.{_≡_, refl, sym, ap, _∙_}
+use borrow.Author.Needs.{needs}
+use Rattle.mobj_runner.specs.Rules.{answerOf}
+use Rattle.mobj_runner.proofs.answer.Statement.{statement}
+use Rattle.mobj_runner.proofs.answer.Tie as tie
+
+begin-requires : tie.Need-begin-requires
+begin-requires c κs =
+    let fine = c .before .before .before .before .before .before .enum-told .given .1 in
+    record {
+      classed = c .before .before .before .before .before .classes .ensures;
+      fine = c .before .before .before .before .before .before .before .before .before .before .verdict .ensures .fine fine;
+      placed = c .before .before .before .before .before .before .before .before .before .before .verdict .ensures .placed fine;
+      room = c .before .before .before .before .before .before .before .before .before .before .verdict .ensures .room fine;
+    }
+
+returns : tie.Need-returns
+unfolding answerOf
+returns c = rw (← c .before .before .before .before .before .before .before .before .before .before .waits-for .ensures, ← c .before .before .before .before .before .verdict .ensures .judged, c .before .found .given .1)
+
+returns-2 : tie.Need-returns-2
+unfolding answerOf
+returns-2 c = rw (← c .before .before .before .before .before .before .before .before .before .before .before .before .before .before .before .before .before .before .before .before .before .before .waits-for .ensures, ← c .before .before .before .before .before .before .before .before .before .before .before .before .before .before .before .before .before .verdict .ensures .judged, c .before .before .before .before .before .before .before .before .before .before .before .before .before .enum-told .given .1, ← c .before .before .before .before .before .before .begin .ensures)
+
+pub answer-spec : {M : Type 1} → statement M
+answer-spec =
+    tie.close
+    (tie.spec
+    (λ c κs. search needs)
+    (λ c κs. search needs)
+    (λ c. search needs)
+    (λ c. search needs)
+    (λ c κs. search needs)
+    (λ c. search needs)
+    begin-requires
+    (λ c. search needs)
+    (λ c. search needs)
+    (λ c. search needs)
+    (λ c. search needs)
+    returns
+    (λ c. search needs)
+    (λ c. search needs)
+    (λ c. search needs)
+    (λ c. search needs)
+    returns-2)

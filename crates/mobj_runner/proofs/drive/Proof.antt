@@ -1,0 +1,51 @@
+use mathlib.Core.Path.{_≡_, refl, sym, ap, _∙_}
+use native.Mathlib.Omega.{arith}
+use lib.ListN.{length}
+use borrow.Author.Needs.{needs}
+use Rattle.mobj_runner.specs.declared.Turn.{Turn}
+use Rattle.mobj_runner.specs.Laws.{turn-charged, drive-stop, drive-go}
+use Rattle.mobj_runner.specs.Rules.{World, world, driveOf}
+use Rattle.vm.specs.Rules.{banks}
+use Rattle.mobj_runner.proofs.drive.Statement.{statement}
+use Rattle.mobj_runner.proofs.drive.Tie as tie
+
+abbrev Inv-loop : tie.InvT-loop
+Inv-loop gpr₀ psr₀ frames₀ classes file places steps objects at₀ left₀ gpr psr frames at left =
+    (length gpr ≡ length gpr₀) × (length psr ≡ length psr₀) × (length frames ≡ length frames₀)
+    × (driveOf file steps left (world at (banks gpr psr) frames) ≡ driveOf file steps left₀ (world at₀ (banks gpr₀ psr₀) frames₀))
+
+abbrev μ-loop : tie.MeasureT-loop
+μ-loop gpr₀ psr₀ frames₀ classes file places steps objects at₀ left₀ gpr psr frames at left = left
+
+one-turn-requires : tie.Need-one-turn-requires Inv-loop μ-loop
+one-turn-requires c κs = record { classed = c .before .before .before .before .before .before .before .before .before .before .pre .classed; fine = c .before .before .before .before .before .before .before .before .before .before .pre .fine; placed = c .before .before .before .before .before .before .before .before .before .before .pre .placed; room = omega (arith, c .before .before .before .loop .inv .2, c .before .before .before .before .before .before .before .before .before .before .pre .room) }
+
+sub-left : tie.Need-sub-left Inv-loop μ-loop
+sub-left c = turn-charged _ _ _ _ _ (ap (λ (x : World Turn). x .it) (sym (rw (c .before .next .given .1) at (c .before .before .before .before .before .before .before .before .before .one-turn .ensures))))
+
+loop-less : tie.Need-loop-less Inv-loop μ-loop
+loop-less c = let some = sub-left c in omega arith
+
+loop-again : tie.Need-loop-again Inv-loop μ-loop
+loop-again c = (search needs, search needs, search needs, drive-go _ _ _ _ _ _ _ (rw (c .before .next .given .1) at (c .before .before .before .before .before .before .before .before .before .one-turn .ensures)) ∙ c .before .before .before .before .before .before .before .before .before .before .before .before .before .loop .inv .3)
+
+returns : tie.Need-returns Inv-loop μ-loop
+returns c = drive-stop _ _ _ _ _ _ _ _ (rw (c .before .outcome .given .1) at (c .before .before .before .before .before .before .before .before .before .one-turn .ensures)) ∙ c .before .before .before .before .before .before .before .before .before .before .before .before .before .loop .inv .3
+
+pub drive-spec : {M : Type 1} → statement M
+drive-spec =
+    tie.close
+    (tie.spec
+    Inv-loop
+    μ-loop
+    (λ c. search needs)
+    one-turn-requires
+    (λ c. search needs)
+    sub-left
+    loop-less
+    loop-again
+    (λ c. search needs)
+    (λ c. search needs)
+    (λ c. search needs)
+    (λ c. search needs)
+    returns)

@@ -1,0 +1,183 @@
+-- Laws of places, of the verdict, and of an object's commands. Assumes nothing.
+use mathlib.Core.Path.{_≡_, refl, sym, _∙_, ap}
+use mathlib.Core.Bool.{Bool, true, false, cond}
+use mathlib.Core.List.{List, []}
+use Prim.Native.Nat.{ℕ, zero, suc, _+_, _*_, _-_, _/_, _%_, _≤_, _<_}
+use native.Mathlib.Nat.{add-zero, add-suc, add-sub-of-le}
+use native.Mathlib.Numerals.{add-one}
+use native.Mathlib.Omega.{arith}
+use lib.Dec.{leb, ltb}
+use lib.ListN.{length, getD, set, take, drop, length-drop, length-set}
+use lib.Seq.{length-take-le, getD-set-same, getD-set-other}
+use borrow.Author.Count.{below-more}
+use borrow.Author.Tests.{le-leb, lt-leb, leb-true, leb-false, lt-ltb, le-ltb, ltb-true, ltb-false}
+use Rattle.common.specs.Rules.{be2, be4, limit, headerOf}
+use Rattle.common.specs.Laws.{Headed, headed, header-fine, be2-below}
+use Rattle.error.specs.declared.Refusal.{Refusal}
+use Rattle.error.specs.declared.Refusal.the-variants.{BadBody}
+use Rattle.error.specs.declared.Verdict.{Verdict}
+use Rattle.error.specs.declared.Verdict.the-variants.{Fine, Refused}
+use Rattle.movie_object.specs.Rules.{next, place, countOf, mobj, bodyOf, verdictOf, commandCount, commandsOf, Placed, Walked}
+
+-- ---- places
+
+pub place-zero : (s : List ℕ) → place s 0 ≡ 78
+unfolding place
+place-zero s = refl
+
+pub place-suc : (s : List ℕ) (n : ℕ) → place s (n + 1) ≡ place s n + 4 + 12 * be2 s (place s n + 2)
+unfolding place next
+place-suc s n = rw (add-one n)
+
+-- the next place, from a place that is known by an equation: what a turn of a walk asks
+pub place-next : (s : List ℕ) (n p : ℕ) → p ≡ place s n → place s (n + 1) ≡ p + 4 + 12 * be2 s (p + 2)
+place-next s n p e = rw e (place-suc s n)
+
+-- m objects further on is no earlier
+grows : (s : List ℕ) (n m : ℕ) → place s n ≤ place s (n + m)
+grows s n zero = rw (add-zero n) (omega arith)
+grows s n (suc m) = rw (add-suc n m, ← add-one (n + m)) (omega (arith, grows s n m, place-suc s (n + m)))
+
+pub place-mono : (s : List ℕ) (n m : ℕ) → n ≤ m → place s n ≤ place s m
+place-mono s n m h = rw (add-sub-of-le h) at (grows s n (m - n))
+
+-- each object has a head, so there are fewer of them than bytes
+pub place-least : (s : List ℕ) (n : ℕ) → 78 + 4 * n ≤ place s n
+place-least s zero = omega (arith, place-zero s)
+place-least s (suc n) = omega (arith, place-least s n, rw (add-one n) at (place-suc s n))
+
+pub place-from : (s : List ℕ) (n : ℕ) → 78 ≤ place s n
+place-from s n = omega (arith, place-zero s, place-mono s 0 n (omega arith))
+
+-- ---- the verdict: how it is found, and what it tells
+
+-- what an accepted file has
+pub record Good (s : List ℕ) : Type 0 where
+  pub head : Headed mobj s
+  pub stated : 44 + be4 s 40 ≤ length s
+  pub last : place s (countOf s) ≤ length s
+
+same : {A : Type 0} (b : Bool) (x : A) → cond b x x ≡ x
+same true x = refl
+same false x = refl
+
+module _ (s : List ℕ) where
+  pub verdict-header : (r : Refusal) → headerOf mobj s ≡ Refused r → verdictOf s ≡ Refused r
+  unfolding verdictOf
+  verdict-header r e = rw e
+
+  pub verdict-stated : headerOf mobj s ≡ Fine → length s < 44 + be4 s 40 → verdictOf s ≡ Refused BadBody
+  unfolding verdictOf bodyOf
+  verdict-stated h l = simp (h, lt-leb _ _ l)
+
+  pub verdict-last : headerOf mobj s ≡ Fine → length s < place s (countOf s) → verdictOf s ≡ Refused BadBody
+  unfolding verdictOf bodyOf
+  verdict-last h l = simp (h, lt-leb _ _ l) (same (leb (44 + be4 s 40) (length s)) (Refused BadBody))
+
+  pub verdict-good : Good s → verdictOf s ≡ Fine
+  unfolding verdictOf bodyOf
+  verdict-good g = simp (header-fine mobj s (g .head), le-leb _ _ (g .stated), le-leb _ _ (g .last))
+
+  pub good : verdictOf s ≡ Fine → Good s
+  good v = go (headerOf mobj s) refl (leb (44 + be4 s 40) (length s)) refl (leb (place s (countOf s)) (length s)) refl
+    where
+      no : (r : Refusal) → verdictOf s ≡ Refused r → Good s
+      no r e = let z : _≡_ {A = ℕ} 0 1 = cc in absurd (omega arith)
+
+      go : (h : Verdict) → headerOf mobj s ≡ h → (a : Bool) → leb (44 + be4 s 40) (length s) ≡ a → (b : Bool) → leb (place s (countOf s)) (length s) ≡ b → Good s
+      go (Refused r) eh a ea b eb = no r (verdict-header r eh)
+      go Fine eh false ea b eb = no BadBody (verdict-stated eh (leb-false _ _ ea))
+      go Fine eh true ea false eb = no BadBody (verdict-last eh (leb-false _ _ eb))
+      go Fine eh true ea true eb = record { head = headed mobj s eh; stated = leb-true _ _ ea; last = leb-true _ _ eb }
+
+-- ---- an object and its commands
+
+module _ (s : List ℕ) (n : ℕ) where
+  -- an object of an accepted file lies within it
+  pub object-in : verdictOf s ≡ Fine → n < countOf s → place s n + 4 + 12 * be2 s (place s n + 2) ≤ length s
+  object-in v h = omega (arith, good s v .last, place-suc s n, place-mono s (n + 1) (countOf s) (omega arith))
+
+  pub commands-there : n < countOf s → commandsOf s n ≡ take (12 * commandCount s n) (drop (place s n + 4) s)
+  unfolding commandsOf
+  commands-there h = simp (lt-ltb n (countOf s) h)
+
+  -- the same, from a place that is known by an equation
+  pub commands-from : (p : ℕ) → n < countOf s → p ≡ place s n → commandsOf s n ≡ take (12 * be2 s (p + 2)) (drop (p + 4) s)
+  unfolding commandCount
+  commands-from p h e = rw e (commands-there h)
+
+  pub commands-missing : countOf s ≤ n → commandsOf s n ≡ []
+  unfolding commandsOf
+  commands-missing h = simp (le-ltb n (countOf s) h)
+
+  pub commands-length : verdictOf s ≡ Fine → n < countOf s → length (commandsOf s n) ≡ 12 * commandCount s n
+  unfolding commandCount
+  commands-length v h =
+      ap length (commands-there h)
+      ∙ length-take-le (12 * be2 s (place s n + 2)) (drop (place s n + 4) s) (omega (arith, object-in v h, length-drop (place s n + 4) s))
+
+  -- commands come in whole twelves, as many as the count says, and no more than a file has room for
+  pub record Whole : Type 0 where
+    pub count : ℕ
+    pub twelves : length (commandsOf s n) ≡ 12 * count
+    pub fits : 12 * count ≤ limit
+
+  pub commands-whole : verdictOf s ≡ Fine → Whole
+  unfolding commandCount
+  commands-whole v = go (ltb n (countOf s)) refl
+    where
+      go : (b : Bool) → ltb n (countOf s) ≡ b → Whole
+      go true e =
+          let h : n < countOf s = ltb-true n (countOf s) e in
+          record { count = commandCount s n; twelves = commands-length v h; fits = omega (arith, object-in v h, good s v .head .short) }
+      go false e = record { count = 0; twelves = ap length (commands-missing (ltb-false n (countOf s) e)); fits = omega arith }
+
+  pub commands-mod : verdictOf s ≡ Fine → length (commandsOf s n) % 12 ≡ 0
+  commands-mod v = let w = commands-whole v in omega (arith, w .twelves)
+
+  -- a program counter stays below this, whatever the bytes are
+  pub commands-few : verdictOf s ≡ Fine → length (commandsOf s n) / 12 ≤ 1398101
+  commands-few v = let w = commands-whole v in omega (arith, w .twelves, w .fits)
+
+  -- and in a file of bytes a count has two of them
+  pub commands-65535 : ((i : ℕ) → getD s i 0 < 256) → verdictOf s ≡ Fine → length (commandsOf s n) / 12 ≤ 65535
+  unfolding commandCount
+  commands-65535 b v = go (ltb n (countOf s)) refl
+    where
+      go : (t : Bool) → ltb n (countOf s) ≡ t → length (commandsOf s n) / 12 ≤ 65535
+      go true e = omega (arith, commands-length v (ltb-true n (countOf s) e), be2-below s (place s n + 2) b)
+      go false e = omega (arith, ap length (commands-missing (ltb-false n (countOf s) e)))
+
+-- ---- a table of places
+
+-- the numbers of t below n, as far as it reaches, are the places of those objects
+pub record Filled (s : List ℕ) (n : ℕ) (t : List ℕ) : Type 0 where
+  pub at : (k : ℕ) → k < n → k < length t → getD t k 0 ≡ place s k
+
+pub filled-none : (s t : List ℕ) → Filled s 0 t
+filled-none s t = record { at = λ k h b. absurd (omega arith) }
+
+pub filled-more : (s t : List ℕ) (k p : ℕ) → Filled s k t → p ≡ place s k → Filled s (k + 1) (set t k p)
+filled-more s t k p was e =
+    record {
+      at = below-more (λ (i : ℕ). i < length (set t k p) → getD (set t k p) i 0 ≡ place s i) k
+          (λ i b r. getD-set-other t k i p 0 (λ q. omega arith) ∙ was .at i b (omega (arith, length-set t k p)))
+          (λ r. getD-set-same t k p 0 (omega (arith, length-set t k p)) ∙ e);
+    }
+
+pub filled-placed : (s t : List ℕ) → Filled s (countOf s) t → countOf s ≤ length t → Placed s t
+filled-placed s t f h = record { room = h; at = λ k b. f .at k b (omega arith) }
+
+-- what a walk over n heads answers: whether all of them lie within the file, and then their places
+pub record Heads (s : List ℕ) (n : ℕ) (t : List ℕ) (r : Bool) : Type 0 where
+  pub yes : r ≡ true → place s n ≤ length s
+  pub no : r ≡ false → length s < place s n
+  pub filled : r ≡ true → Filled s n t
+
+-- what the walk answers in each case
+module _ (s t : List ℕ) where
+  pub walked-refused : (v : Verdict) (r : Refusal) → v ≡ Refused r → verdictOf s ≡ Refused r → Walked s t v
+  walked-refused v r e f = record { judged = e ∙ sym f; placed = λ g h. let z : _≡_ {A = ℕ} 0 1 = cc in absurd (omega arith) }
+
+  pub walked-fine : Good s → Filled s (countOf s) t → Walked s t Fine
+  walked-fine g f = record { judged = sym (verdict-good s g); placed = λ e h. filled-placed s t f h }

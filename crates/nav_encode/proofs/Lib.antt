@@ -1,0 +1,5 @@
+pub mod Laws
+pub mod Equal
+pub mod Codes
+pub mod Round
+pub mod Claims

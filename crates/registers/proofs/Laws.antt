@@ -1,0 +1,189 @@
+-- The laws of operands and of Set commands: how what the calls promise makes what the rules say. Assumes nothing.
+use mathlib.Core.Path.{_≡_, refl, sym, ap, _∙_}
+use mathlib.Core.Bool.{Bool, true, false, cond}
+use mathlib.Core.List.{List, [], _∷_, map}
+use Prim.Native.Nat.{ℕ, zero, suc, _+_, _%_, _≤_, _<_}
+use native.Mathlib.Omega.{arith}
+use lib.Dec.{ltb}
+use lib.ListN.{length, getD, set, List·getD-eq-default}
+use borrow.Author.Tests.{lt-ltb, le-ltb}
+use Rattle.register_model.specs.Rules.{writable}
+use Rattle.nav_command.specs.Rules.{operandOf}
+use Rattle.nav_command.specs.Rules as nav
+use Rattle.nav_command.specs.declared.Operand.{Operand}
+use Rattle.nav_command.specs.declared.Operand.the-variants.{Absent, Immediate, Register}
+use Rattle.nav_command.specs.declared.Operation.{Operation}
+use Rattle.nav_command.specs.declared.Operation.the-variants.{Set, Unknown}
+use Rattle.nav_command.specs.declared.RegisterBank.the-variants.{Gpr, Psr, PsrSecondary}
+use Rattle.registers.specs.declared.Effect.{Effect}
+use Rattle.registers.specs.declared.Effect.the-variants.{Write, Swap, Nothing}
+use Rattle.registers.specs.declared.Raw.{Raw}
+use Rattle.registers.specs.Rules.{Banks, banks, names, valueOf, writtenStatus, written, effectFor, applied, setOf, meant}
+
+-- Codes: the last arm of a `match` on a number.
+
+-- n is none of the k numbers from b on
+abbrev pub NoneOf : ℕ → ℕ → ℕ → Type 0
+NoneOf b zero n = Unit
+NoneOf b (suc k) n = NoneOf b k n × (n ≡ b + k → ⊥)
+
+pub beyond : (b k n : ℕ) → NoneOf b k n → b ≤ n → b + k ≤ n
+beyond b zero n r h = omega arith
+beyond b (suc k) n (r, q) h = let g : b + k ≤ n = beyond b k n r h in omega (arith, q)
+
+-- a row that counts from one gives the default at 0 and past its end
+pub from-one : {A : Type 0} (row : List A) (n : ℕ) (d : A) → (0 < n → length row < n) → getD (d ∷ row) n d ≡ d
+from-one row zero d h = refl
+from-one row (suc n) d h = List·getD-eq-default row d {n = n} (omega (arith, h (omega arith)))
+
+-- set codes that have no name
+pub past-sets : (code : ℕ) → NoneOf 1 15 code → nav.setOf 0 code ≡ Unknown 0 code
+unfolding nav.setOf
+past-sets code r = from-one (map Set nav.sets) code (Unknown 0 code) (beyond 1 15 code r)
+
+-- Operands.
+
+module _ (w : ℕ) where
+  pub general-word : w < 0x8000_0000 → operandOf true false w ≡ Register Gpr (w % 4096)
+  unfolding operandOf
+  general-word h = rw (lt-ltb w 0x8000_0000 h)
+
+  pub status-word : 0x8000_0000 ≤ w → operandOf true false w ≡ Register (cond (ltb w 0xC000_0000) Psr PsrSecondary) (w % 4096)
+  unfolding operandOf
+  status-word h = rw (le-ltb w 0x8000_0000 h)
+
+-- both status banks are the same registers
+abbrev either : Bool → ℕ → Operand
+either t i = Register (cond t Psr PsrSecondary) i
+
+same-value : (t : Bool) (i : ℕ) (s : Banks) → valueOf (either t i) s ≡ getD (s .status) i 0
+same-value true i s = refl
+same-value false i s = refl
+
+same-names : (t : Bool) (i : ℕ) → names (either t i) ≡ ltb i 128
+same-names true i = refl
+same-names false i = refl
+
+same-written : (t : Bool) (i v : ℕ) (s : Banks) → written (either t i) v s ≡ written (Register Psr i) v s
+unfolding written
+same-written true i v s = refl
+same-written false i v s = refl
+
+same-applied : (e : Effect) (t : Bool) (i : ℕ) (b : Operand) (x y : ℕ) (s : Banks) → applied e (either t i) b x y s ≡ applied e (Register Psr i) b x y s
+unfolding applied
+same-applied (Write v) t i b x y s = same-written t i v s
+same-applied Swap t i b x y s = same-written t i y (written b x s)
+same-applied Nothing t i b x y s = refl
+
+-- the register that a word names, by its number: its value, and what a write leaves
+module _ (w : ℕ) (s : Banks) {i : ℕ} (n : i ≡ w % 4096) where
+  pub general-value : {r : ℕ} → w < 0x8000_0000 → r ≡ getD (s .general) i 0 → r ≡ valueOf (operandOf true false w) s
+  general-value h e = e ∙ rw (general-word w h, n)
+
+  pub status-value : {r : ℕ} → 0x8000_0000 ≤ w → r ≡ getD (s .status) i 0 → r ≡ valueOf (operandOf true false w) s
+  status-value h e = e ∙ rw (status-word w h, same-value, n)
+
+  pub general-written : (v : ℕ) {g : List ℕ} → w < 0x8000_0000 → g ≡ set (s .general) i v → banks g (s .status) ≡ written (operandOf true false w) v s
+  unfolding written
+  general-written v h e = rw (general-word w h, e, n)
+
+  pub status-written : (v : ℕ) {p : List ℕ} → 0x8000_0000 ≤ w → p ≡ writtenStatus i v (s .status) → banks (s .general) p ≡ written (operandOf true false w) v s
+  unfolding written
+  status-written v h e = rw (status-word w h, same-written, e, n)
+
+-- an operand that is not there, one that is a number of its own, and one that names a register
+module _ (a : Raw) where
+  pub absent : a .there ≡ false → meant a ≡ Absent
+  unfolding operandOf
+  absent h = rw h
+
+  pub own : a .there ≡ true → a .immediate ≡ true → meant a ≡ Immediate (a .word)
+  unfolding operandOf
+  own h i = rw (h, i)
+
+  pub register : a .there ≡ true → a .immediate ≡ false → meant a ≡ operandOf true false (a .word)
+  register h i = rw (h, i)
+
+-- a write to a status register, by what the test of its class answers
+module _ (i v : ℕ) (p : List ℕ) {may : Bool} (m : may ≡ writable i) where
+  pub stored : {q : List ℕ} → may ≡ true → q ≡ set p i v → q ≡ writtenStatus i v p
+  unfolding writtenStatus
+  stored h e = e ∙ rw (sym m ∙ h)
+
+  pub dropped : may ≡ false → p ≡ writtenStatus i v p
+  unfolding writtenStatus
+  dropped h = rw (sym m ∙ h)
+
+-- Sets.
+
+-- a register written, by what its bank holds then
+general-put : (i v : ℕ) (s : Banks) {g : List ℕ} → g ≡ set (s .general) i v → banks g (s .status) ≡ written (Register Gpr i) v s
+unfolding written
+general-put i v s h = rw h
+
+status-put : (i v : ℕ) (s : Banks) {p : List ℕ} → p ≡ writtenStatus i v (s .status) → banks (s .general) p ≡ written (Register Psr i) v s
+unfolding written
+status-put i v s h = rw h
+
+-- an effect, by what it was found to be
+module _ (e : Effect) (i : ℕ) (b : Operand) (x y : ℕ) (s : Banks) {f : Effect} (m : f ≡ e) where
+  wrote : (a : Operand) (v : ℕ) {t : Banks} → f ≡ Write v → t ≡ written a v s → t ≡ applied e a b x y s
+  unfolding applied
+  wrote a v d h = h ∙ rw (sym m ∙ d)
+
+  swapped : (a : Operand) {t u : Banks} → f ≡ Swap → t ≡ written b x s → u ≡ written a y t → u ≡ applied e a b x y s
+  unfolding applied
+  swapped a d k h = h ∙ rw (sym m ∙ d, k)
+
+  pub nothing : (a : Operand) → f ≡ Nothing → s ≡ applied e a b x y s
+  unfolding applied
+  nothing a d = rw (sym m ∙ d)
+
+  pub wrote-general : {v : ℕ} {g : List ℕ} → f ≡ Write v → g ≡ set (s .general) i v → banks g (s .status) ≡ applied e (Register Gpr i) b x y s
+  wrote-general {v} d h = wrote (Register Gpr i) v d (general-put i v s h)
+
+  pub wrote-status : {v : ℕ} {p : List ℕ} → f ≡ Write v → p ≡ writtenStatus i v (s .status) → banks (s .general) p ≡ applied e (Register Psr i) b x y s
+  wrote-status {v} d h = wrote (Register Psr i) v d (status-put i v s h)
+
+  pub swapped-general : (t : Banks) {g : List ℕ} → f ≡ Swap → t ≡ written b x s → g ≡ set (t .general) i y → banks g (t .status) ≡ applied e (Register Gpr i) b x y s
+  swapped-general t d k h = swapped (Register Gpr i) d k (general-put i y t h)
+
+  pub swapped-status : (t : Banks) {p : List ℕ} → f ≡ Swap → t ≡ written b x s → p ≡ writtenStatus i y (t .status) → banks (t .general) p ≡ applied e (Register Psr i) b x y s
+  swapped-status t d k h = swapped (Register Psr i) d k (status-put i y t h)
+
+-- a Set command leaves all as it is where its first operand names no register, or it has no effect
+module _ (op : Operation) (b : Operand) (x y : ℕ) (s : Banks) where
+  pub sets-none : (a : Operand) → names a ≡ false → s ≡ setOf op a b x y s
+  unfolding setOf
+  sets-none a h = rw h
+
+  pub sets-named : (a : Operand) {t : Banks} → names a ≡ true → t ≡ applied (effectFor op x y) a b x y s → t ≡ setOf op a b x y s
+  unfolding setOf
+  sets-named a h e = e ∙ rw h
+
+  pub sets-nothing : (a : Operand) → effectFor op x y ≡ Nothing → s ≡ setOf op a b x y s
+  unfolding setOf applied
+  sets-nothing a e = rw e (both (names a)) where
+    both : (t : Bool) → s ≡ cond t s s
+    both true = refl
+    both false = refl
+
+  -- the same of a word that names a register
+  module _ {a : Operand} (w : ℕ) {i : ℕ} (m : a ≡ operandOf true false w) (n : i ≡ w % 4096) where
+    pub sets-general : {t : Banks} → w < 0x8000_0000 → t ≡ applied (effectFor op x y) (Register Gpr i) b x y s → t ≡ setOf op a b x y s
+    sets-general h e =
+        let g : a ≡ Register Gpr i = m ∙ general-word w h ∙ ap (Register Gpr) (sym n) in
+        let small : i < 4096 = omega arith in
+        sets-named a (ap names g ∙ lt-ltb i 4096 small) (e ∙ ap (λ o. applied (effectFor op x y) o b x y s) (sym g))
+
+    pub sets-status : {t : Banks} → 0x8000_0000 ≤ w → i < 128 → t ≡ applied (effectFor op x y) (Register Psr i) b x y s → t ≡ setOf op a b x y s
+    sets-status h small e =
+        let k = ltb w 0xC000_0000 in
+        let g : a ≡ either k i = m ∙ status-word w h ∙ ap (either k) (sym n) in
+        sets-named a (ap names g ∙ same-names k i ∙ lt-ltb i 128 small) (e ∙ sym (same-applied (effectFor op x y) k i b x y s) ∙ ap (λ o. applied (effectFor op x y) o b x y s) (sym g))
+
+    pub sets-past : 0x8000_0000 ≤ w → 128 ≤ i → s ≡ setOf op a b x y s
+    sets-past h large =
+        let k = ltb w 0xC000_0000 in
+        let g : a ≡ either k i = m ∙ status-word w h ∙ ap (either k) (sym n) in
+        sets-none a (ap names g ∙ same-names k i ∙ le-ltb i 128 large)

@@ -1,0 +1,27 @@
+use Prim.Native.Nat.{_≤_, _-_}
+use lib.ListN.{length}
+use borrow.Author.Needs.{needs}
+use Rattle.replay_drives.proofs.bank_differences.Statement.{statement}
+use Rattle.replay_drives.proofs.bank_differences.Tie as tie
+
+abbrev Inv-loop : tie.InvT-loop
+Inv-loop got expected wrong₀ i₀ wrong i = i ≤ length got
+
+abbrev μ-loop : tie.MeasureT-loop
+μ-loop got expected wrong₀ i₀ wrong i = length got - i
+
+pub bank-differences-spec : {M : Type 1} → statement M
+bank-differences-spec =
+    tie.close
+    (tie.spec
+    Inv-loop
+    μ-loop
+    (λ c. search needs)
+    (λ c κs. search needs)
+    (λ c κs. search needs)
+    (λ c κs. search needs)
+    (λ c κs. search needs)
+    (λ c. search needs)
+    (λ c. search needs)
+    (λ c. search needs)
+    (λ c. search needs))

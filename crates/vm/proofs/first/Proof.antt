@@ -1,0 +1,24 @@
+use borrow.Author.Needs.{needs}
+use Rattle.vm.proofs.first.Statement.{statement}
+use Rattle.vm.proofs.first.Tie as tie
+
+returns : tie.Need-returns
+returns c = rw (c .join .ensures)
+
+pub first-spec : {M : Type 1} → statement M
+first-spec =
+    tie.close
+    (tie.spec
+    (λ c. search needs)
+    (λ c. search needs)
+    (λ c. search needs)
+    (λ c. search needs)
+    (λ c. search needs)
+    (λ c. search needs)
+    (λ c. search needs)
+    (λ c. search needs)
+    (λ c. search needs)
+    (λ c. search needs)
+    (λ c. search needs)
+    (λ c κs. search needs)
+    returns)
