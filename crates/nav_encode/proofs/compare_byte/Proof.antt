@@ -1,43 +1,13 @@
+-- `compare_byte` gives the code of a compare, and 0 for the other groups. Assumes nothing.
 use native.Mathlib.Omega.{arith}
 use borrow.Author.Needs.{needs}
 use Rattle.nav_encode.proofs.compare_byte.Statement.{statement}
 use Rattle.nav_encode.proofs.compare_byte.Tie as tie
-use Rattle.nav_encode.proofs.compare_byte.Reads as reads
-use Rattle.nav_encode.proofs.compare_byte.Lts as lts
 
--- src/lib.rt:233:33
-enum-told : tie.Need-enum-told
-enum-told c = search needs
-
--- src/lib.rt:234:34
-enum-told-2 : tie.Need-enum-told-2
-enum-told-2 c = search needs
-
--- src/lib.rt:235:30
-enum-told-3 : tie.Need-enum-told-3
-enum-told-3 c = search needs
-
--- src/lib.rt:236:38
-enum-told-4 : tie.Need-enum-told-4
-enum-told-4 c = search needs
-
--- src/lib.rt:229:1
-returns : tie.Need-returns
-returns c = search needs
-
--- src/lib.rt:229:1
 returns-2 : tie.Need-returns-2
 returns-2 c = rw (c .enum-told2 .given .1) (omega arith)
-
--- src/lib.rt:229:1
-returns-3 : tie.Need-returns-3
-returns-3 c = search needs
-
--- src/lib.rt:229:1
-returns-4 : tie.Need-returns-4
-returns-4 c = search needs
 
 pub compare-byte-spec : {M : Type 1} → statement M
 compare-byte-spec =
     tie.close
-    (tie.spec enum-told enum-told-2 enum-told-3 enum-told-4 returns returns-2 returns-3 returns-4)
+    (tie.spec (λ c. search needs) (λ c. search needs) (λ c. search needs) (λ c. search needs) (λ c. search needs) returns-2 (λ c. search needs) (λ c. search needs))

@@ -1,10 +1,8 @@
+-- `ignored_bits`: the theorem is that of Claims. Assumes nothing.
 use Rattle.nav_encode.proofs.Claims.{ignored}
 use Rattle.nav_encode.proofs.ignored_bits.Statement.{statement}
 use Rattle.nav_encode.proofs.ignored_bits.Tie as tie
-use Rattle.nav_encode.proofs.ignored_bits.Reads as reads
-use Rattle.nav_encode.proofs.ignored_bits.Lts as lts
 
--- src/lib.rt:376:1
 returns : tie.Need-returns
 returns c = ignored
 

@@ -1,3 +1,4 @@
+-- `copy` lays the bytes over the room: after i turns the first i of them stand there. Assumes nothing.
 use mathlib.Core.Path.{_≡_, refl, ap, _∙_}
 use Prim.Native.Nat.{_+_, _-_, _≤_}
 use native.Mathlib.Omega.{arith}
@@ -6,8 +7,6 @@ use lib.Seq.{sets, take-all}
 use Rattle.text.proofs.Laws.{copied}
 use Rattle.text.proofs.copy.Statement.{statement}
 use Rattle.text.proofs.copy.Tie as tie
-use Rattle.text.proofs.copy.Reads as reads
-use Rattle.text.proofs.copy.Lts as lts
 
 abbrev Inv-loop : tie.InvT-loop
 Inv-loop out₀ at bytes i₀ out i = (i ≤ length bytes) × (out ≡ sets out₀ at (take i bytes)) × (length out ≡ length out₀)
@@ -15,39 +14,18 @@ Inv-loop out₀ at bytes i₀ out i = (i ≤ length bytes) × (out ≡ sets out�
 abbrev μ-loop : tie.MeasureT-loop
 μ-loop out₀ at bytes i₀ out i = length bytes - i
 
--- src/lib.rt:47:5
 loop-holds : tie.Need-loop-holds Inv-loop μ-loop
 loop-holds c = (omega arith, refl, refl)
 
--- src/lib.rt:48:23
-shared-slice-read-out : tie.Need-shared-slice-read-out Inv-loop μ-loop
-shared-slice-read-out c = omega arith
-
--- src/lib.rt:48:13
-add-out : tie.Need-add-out Inv-loop μ-loop
-add-out c = omega arith
-
--- src/lib.rt:48:9
 slice-write-out : tie.Need-slice-write-out Inv-loop μ-loop
 slice-write-out c = omega (arith, c .before .before .loop .inv .2)
 
--- src/lib.rt:49:9
-add-i : tie.Need-add-i Inv-loop μ-loop
-add-i c = omega arith
-
--- src/lib.rt:47:5
-loop-less : tie.Need-loop-less Inv-loop μ-loop
-loop-less c = omega arith
-
--- src/lib.rt:47:5
 loop-again : tie.Need-loop-again Inv-loop μ-loop
 loop-again c = (omega arith, copied (c .before .before .before .args .out .now) _ (c .before .before .before .args .bytes .now) (c .before .before .before .args .at) (c .before .before .loop .i) (c .before .loop-test .taken) (c .before .before .loop .inv .1), simp length-set (c .before .before .loop .inv .2))
 
--- src/lib.rt:42:1
 same-length : tie.Need-same-length Inv-loop μ-loop
 same-length c = c .before .loop .inv .2
 
--- src/lib.rt:42:1
 returns : tie.Need-returns Inv-loop μ-loop
 returns c = c .before .loop .inv .1 ∙ ap (sets (c .before .before .args .out .now) (c .before .before .args .at)) (take-all (c .before .loop .i) (c .before .before .args .bytes .now) (c .loop-test .left))
 
@@ -58,11 +36,11 @@ copy-spec =
     Inv-loop
     μ-loop
     loop-holds
-    shared-slice-read-out
-    add-out
+    (λ c. omega arith)
+    (λ c. omega arith)
     slice-write-out
-    add-i
-    loop-less
+    (λ c. omega arith)
+    (λ c. omega arith)
     loop-again
     same-length
     returns)

@@ -1,27 +1,21 @@
+-- `decimal_digits` counts a numeral's digits: each test is a power of ten. Assumes nothing.
 use native.Mathlib.Omega.{arith}
 use Rattle.text.proofs.Laws.{digits, digits-1}
 use Rattle.text.proofs.decimal_digits.Statement.{statement}
 use Rattle.text.proofs.decimal_digits.Tie as tie
-use Rattle.text.proofs.decimal_digits.Reads as reads
-use Rattle.text.proofs.decimal_digits.Lts as lts
 
--- src/lib.rt:88:9
 returns : tie.Need-returns
 returns c = (digits-1 10 _ (c .if1 .taken), omega arith)
 
--- src/lib.rt:91:9
 returns-2 : tie.Need-returns-2
 returns-2 c = (digits 1 10 _ (omega arith) (omega arith) (omega arith) (omega arith), omega arith)
 
--- src/lib.rt:94:9
 returns-3 : tie.Need-returns-3
 returns-3 c = (digits 2 10 _ (omega arith) (omega arith) (omega arith) (omega arith), omega arith)
 
--- src/lib.rt:97:9
 returns-4 : tie.Need-returns-4
 returns-4 c = (digits 3 10 _ (omega arith) (omega arith) (omega arith) (omega arith), omega arith)
 
--- src/lib.rt:84:1
 returns-5 : tie.Need-returns-5
 returns-5 c = (digits 4 10 _ (omega arith) (omega arith) (omega arith) (omega arith), omega arith)
 

@@ -1,39 +1,30 @@
+-- `hex_digits` counts a numeral's digits: each test is a power of sixteen. Assumes nothing.
 use native.Mathlib.Omega.{arith}
 use Rattle.text.proofs.Laws.{digits, digits-1}
 use Rattle.text.proofs.hex_digits.Statement.{statement}
 use Rattle.text.proofs.hex_digits.Tie as tie
-use Rattle.text.proofs.hex_digits.Reads as reads
-use Rattle.text.proofs.hex_digits.Lts as lts
 
--- src/lib.rt:106:9
 returns : tie.Need-returns
 returns c = (digits-1 16 _ (c .if1 .taken), omega arith)
 
--- src/lib.rt:109:9
 returns-2 : tie.Need-returns-2
 returns-2 c = (digits 1 16 _ (omega arith) (omega arith) (omega arith) (omega arith), omega arith)
 
--- src/lib.rt:112:9
 returns-3 : tie.Need-returns-3
 returns-3 c = (digits 2 16 _ (omega arith) (omega arith) (omega arith) (omega arith), omega arith)
 
--- src/lib.rt:115:9
 returns-4 : tie.Need-returns-4
 returns-4 c = (digits 3 16 _ (omega arith) (omega arith) (omega arith) (omega arith), omega arith)
 
--- src/lib.rt:118:9
 returns-5 : tie.Need-returns-5
 returns-5 c = (digits 4 16 _ (omega arith) (omega arith) (omega arith) (omega arith), omega arith)
 
--- src/lib.rt:121:9
 returns-6 : tie.Need-returns-6
 returns-6 c = (digits 5 16 _ (omega arith) (omega arith) (omega arith) (omega arith), omega arith)
 
--- src/lib.rt:124:9
 returns-7 : tie.Need-returns-7
 returns-7 c = (digits 6 16 _ (omega arith) (omega arith) (omega arith) (omega arith), omega arith)
 
--- src/lib.rt:102:1
 returns-8 : tie.Need-returns-8
 returns-8 c = (digits 7 16 _ (omega arith) (omega arith) (omega arith) (omega arith), omega arith)
 

@@ -1,16 +1,14 @@
+-- `put_tested` writes byte by byte: after i turns the first i of them stand there. Assumes nothing.
 use mathlib.Core.Path.{_≡_, refl, ap, _∙_}
 use Prim.Native.Nat.{_+_, _-_, _≤_}
 use native.Mathlib.Omega.{arith}
 use lib.ListN.{length, take, getD, length-set}
 use lib.Seq.{sets, take-all}
-use Rattle.text.specs.Rules.{Wrote}
 use Rattle.text.specs.Laws.{nothing}
+use Rattle.text.specs.Rules.{Wrote}
 use Rattle.text.proofs.Laws.{tested}
 use Rattle.text.proofs.put_tested.Statement.{statement}
 use Rattle.text.proofs.put_tested.Tie as tie
-use Rattle.text.proofs.put_tested.Reads as reads
-use Rattle.text.proofs.put_tested.Lts as lts
-use Rattle.text.proofs.put_byte.Reads as put-byte-reads
 
 abbrev Inv-loop : tie.InvT-loop
 Inv-loop out₀ at bytes p₀ i₀ out p i = (i ≤ length bytes) × Wrote out₀ at (take i bytes) out p × (length out ≡ length out₀)
@@ -18,35 +16,15 @@ Inv-loop out₀ at bytes p₀ i₀ out p i = (i ≤ length bytes) × Wrote out�
 abbrev μ-loop : tie.MeasureT-loop
 μ-loop out₀ at bytes p₀ i₀ out p i = length bytes - i
 
--- src/lib.rt:59:5
 loop-holds : tie.Need-loop-holds Inv-loop μ-loop
 loop-holds c = (omega arith, nothing (omega arith) (omega arith), refl)
 
--- src/lib.rt:60:30
-shared-slice-read-put-byte : tie.Need-shared-slice-read-put-byte Inv-loop μ-loop
-shared-slice-read-put-byte c = omega arith
-
--- src/lib.rt:60:9
-put-byte-requires : tie.Need-put-byte-requires Inv-loop μ-loop
-put-byte-requires c κs = tt
-
--- src/lib.rt:61:9
-add-i : tie.Need-add-i Inv-loop μ-loop
-add-i c = omega arith
-
--- src/lib.rt:59:5
-loop-less : tie.Need-loop-less Inv-loop μ-loop
-loop-less c = omega arith
-
--- src/lib.rt:59:5
 loop-again : tie.Need-loop-again Inv-loop μ-loop
 loop-again c = (omega arith, tested (c .before .before .before .before .before .before .before .before .before .args .bytes .now) (c .before .before .before .before .before .before .loop .i) (c .before .before .before .before .before .loop-test .taken) (c .before .before .before .before .before .before .loop .inv .1) (c .before .before .put-byte .ensures), c .before .before .put-byte .kept .0 ∙ c .before .before .before .before .before .before .loop .inv .2)
 
--- src/lib.rt:54:1
 same-length : tie.Need-same-length Inv-loop μ-loop
 same-length c = c .before .loop .inv .2
 
--- src/lib.rt:54:1
 returns : tie.Need-returns Inv-loop μ-loop
 returns c = rw (take-all (c .before .loop .i) (c .before .before .before .before .args .bytes .now) (c .loop-test .left)) at (c .before .loop .inv .1)
 
@@ -57,10 +35,10 @@ put-tested-spec =
     Inv-loop
     μ-loop
     loop-holds
-    shared-slice-read-put-byte
-    put-byte-requires
-    add-i
-    loop-less
+    (λ c. omega arith)
+    (λ c κs. tt)
+    (λ c. omega arith)
+    (λ c. omega arith)
     loop-again
     same-length
     returns)

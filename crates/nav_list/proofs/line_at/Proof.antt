@@ -1,0 +1,28 @@
+-- `line_at` reads a line's numbers from the twelve bytes at a place. Assumes nothing.
+use borrow.Author.Needs.{needs}
+use Rattle.nav_list.proofs.Lines.{lines-at}
+use Rattle.nav_list.proofs.line_at.Statement.{statement}
+use Rattle.nav_list.proofs.line_at.Tie as tie
+
+returns : tie.Need-returns
+returns c = lines-at (c .before .before .before .before .before .before .before .before .before .before .args .file .now) (c .before .before .before .before .before .before .before .before .before .before .args .from) _ _ _ (c .before .before .before .before .head-at .ensures) (rw (c .before .before .before .word-at .ensures) at (c .before .before .shown-at .ensures)) (rw (c .before .word-at2 .ensures) at (c .shown-at2 .ensures))
+
+pub line-at-spec : {M : Type 1} → statement M
+line-at-spec =
+    tie.close
+    (tie.spec
+    (λ c. search needs)
+    (λ c. search needs)
+    (λ c. search needs)
+    (λ c. search needs)
+    (λ c. search needs)
+    (λ c. search needs)
+    (λ c. search needs)
+    (λ c κs. search needs)
+    (λ c. search needs)
+    (λ c κs. search needs)
+    (λ c κs. search needs)
+    (λ c. search needs)
+    (λ c κs. search needs)
+    (λ c κs. search needs)
+    returns)

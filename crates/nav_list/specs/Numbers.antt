@@ -1,0 +1,69 @@
+-- The same line by numbers, as the code lists it: an operation by its number on the sheet, 0 if it is unknown; an operand
+-- by its kind, 0 absent, 1 immediate, 2 general, 3 status, 4 secondary. Assumes nothing.
+use mathlib.Core.Path.{_≡_}
+use mathlib.Core.Bool.{true, false}
+use mathlib.Core.List.{List, [], _++_}
+use Prim.Native.Nat.{ℕ, zero, suc, _%_, _<_}
+use Rattle.text.specs.Rules.{bytes}
+use Rattle.nav_command.specs.declared.RegisterBank.{RegisterBank}
+use Rattle.nav_command.specs.declared.RegisterBank.the-variants.{Gpr, Psr, PsrSecondary}
+use Rattle.nav_command.specs.declared.Operand.{Operand}
+use Rattle.nav_command.specs.declared.Operand.the-variants.{Absent, Immediate, Register}
+use Rattle.nav_list.specs.declared.Line.{Line}
+use Rattle.nav_list.specs.declared.Head.{Head}
+use Rattle.nav_list.specs.declared.Shown.{Shown}
+use Rattle.nav_names.specs.Rules.{mnemonic}
+use Rattle.nav_list.specs.Rules.{unknownText, immediateText, generalText, statusText, operandText}
+
+abbrev pub headBy : ℕ → ℕ → ℕ → List ℕ
+headBy zero sub code = unknownText sub code
+headBy (suc number) sub code = mnemonic (suc number)
+
+abbrev pub operandBy : ℕ → ℕ → List ℕ
+operandBy zero value = []
+operandBy (suc zero) value = immediateText value
+operandBy (suc (suc zero)) value = generalText (value % 65536)
+operandBy (suc (suc (suc zero))) value = statusText (value % 65536) false
+operandBy (suc (suc (suc (suc kind)))) value = statusText (value % 65536) true
+
+abbrev pub secondBy : ℕ → ℕ → List ℕ
+secondBy zero value = []
+secondBy (suc kind) value = bytes ", " ++ operandBy (suc kind) value
+
+abbrev pub operandsBy : ℕ → ℕ → ℕ → ℕ → List ℕ
+operandsBy zero value other second = []
+operandsBy (suc kind) value other second = bytes " " ++ (operandBy (suc kind) value ++ secondBy other second)
+
+unfoldable pub lineBy : Line → List ℕ
+lineBy l =
+    headBy (l .head .number) (l .head .sub) (l .head .code)
+    ++ operandsBy (l .first .kind) (l .first .value) (l .second .kind) (l .second .value)
+
+-- What the numbers of an operand and of a line show.
+
+abbrev pub bankKind : RegisterBank → ℕ
+bankKind Gpr = 2
+bankKind Psr = 3
+bankKind PsrSecondary = 4
+
+abbrev pub kindOf : Operand → ℕ
+kindOf Absent = 0
+kindOf (Immediate value) = 1
+kindOf (Register bank i) = bankKind bank
+
+pub record Shows (o : Operand) (s : Shown) : Type 0 where
+  pub sort : s .kind ≡ kindOf o
+  pub text : operandText o ≡ operandBy (s .kind) (s .value)
+  pub fits : s .value < 0x1_0000_0000
+
+pub record Heads (t : List ℕ) (h : Head) : Type 0 where
+  pub text : t ≡ headBy (h .number) (h .sub) (h .code)
+  pub sub : h .sub < 256
+  pub code : h .code < 256
+
+pub record Lines (t : List ℕ) (l : Line) : Type 0 where
+  pub text : t ≡ lineBy l
+  pub sub : l .head .sub < 256
+  pub code : l .head .code < 256
+  pub first : l .first .value < 0x1_0000_0000
+  pub second : l .second .value < 0x1_0000_0000

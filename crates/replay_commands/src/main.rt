@@ -1,0 +1,236 @@
+// Replays commands that the Rust has decoded and listed, and prints how many there are and how many differ.
+// Its standard input is made by compare/src/bin/answers_commands.rs, which says what a record holds.
+ghost use mathlib.Core.Path.{_≡_};
+ghost use Prim.Native.Nat.{_+_, _≤_};
+ghost use lib.ListN.{length};
+ghost use Rattle.replay_commands.specs.Onward.{Onward};
+use error::Verdict;
+use libc::STDIN_FILENO;
+use libc::STDOUT_FILENO;
+use nav_command::CommandGroup;
+use nav_command::DecodedCommand;
+use nav_command::Operand;
+use nav_command::Operation;
+use nav_command::RegisterBank;
+use nav_list::Listed;
+
+// An operation in numbers.
+struct Coded {
+    number: u8,
+    sub: u8,
+    code: u8,
+}
+
+// Where the next record starts, and whether this one agrees with the port.
+enum Replayed {
+    Next(usize, bool),
+    Cut,
+}
+
+fn group_number(group: CommandGroup) -> u8 {
+    match group {
+        CommandGroup::Branch => 0,
+        CommandGroup::Compare => 1,
+        CommandGroup::Set => 2,
+        CommandGroup::Reserved(bits) => bits,
+    }
+}
+
+fn named(number: u8) -> Coded {
+    Coded {
+        number,
+        sub: 0,
+        code: 0,
+    }
+}
+
+fn numbered(operation: Operation) -> Coded {
+    match operation {
+        Operation::Branch(op) => named(nav_encode::branch_number(op)),
+        Operation::Compare(op) => named(14 + nav_encode::compare_number(op)),
+        Operation::Set(op) => named(21 + nav_encode::set_number(op)),
+        Operation::System(op) => named(36 + nav_encode::system_number(op)),
+        Operation::Unknown { sub_grp, selector } => Coded {
+            number: 0,
+            sub: sub_grp,
+            code: selector,
+        },
+    }
+}
+
+fn flag(set: bool, value: u8) -> u8
+    ensures { λ r. ⌜ r ≤ value ⌝ }
+{
+    if set { value } else { 0 }
+}
+
+fn put_value(out: &mut [u8], at: usize, kind: u8, value: u32) -> usize {
+    let a = text::put_byte(out, at, kind);
+    let b = text::put_byte(out, a, (value / 0x100_0000 % 256) as u8);
+    let c = text::put_byte(out, b, (value / 0x1_0000 % 256) as u8);
+    let d = text::put_byte(out, c, (value / 0x100 % 256) as u8);
+    text::put_byte(out, d, (value % 256) as u8)
+}
+
+fn put_register(out: &mut [u8], at: usize, bank: RegisterBank, index: u16) -> usize {
+    match bank {
+        RegisterBank::Gpr => put_value(out, at, 2, index as u32),
+        RegisterBank::Psr => put_value(out, at, 3, index as u32),
+        RegisterBank::PsrSecondary => put_value(out, at, 4, index as u32),
+    }
+}
+
+fn put_operand(out: &mut [u8], at: usize, operand: Operand) -> usize {
+    match operand {
+        Operand::Absent => put_value(out, at, 0, 0),
+        Operand::Immediate(value) => put_value(out, at, 1, value),
+        Operand::Register { bank, index } => put_register(out, at, bank, index),
+    }
+}
+
+fn put_operation(out: &mut [u8], at: usize, operation: Operation) -> usize {
+    let op = numbered(operation);
+    let a = text::put_byte(out, at, op.number);
+    let b = text::put_byte(out, a, op.sub);
+    text::put_byte(out, b, op.code)
+}
+
+fn put_head(out: &mut [u8], command: DecodedCommand) -> usize {
+    let group = command.group;
+    let a = text::put_byte(out, 0, command.operand_count);
+    let b = text::put_byte(out, a, group_number(group));
+    let c = text::put_byte(out, b, command.sub_group);
+    text::put_byte(out, c, flag(command.imm_op1, 1) + flag(command.imm_op2, 2))
+}
+
+// All eight fields, as a record has them.
+fn put_fields(out: &mut [u8], command: DecodedCommand) {
+    let operation = command.operation;
+    let operand1 = command.operand1;
+    let operand2 = command.operand2;
+    let a = put_head(out, command);
+    let b = put_operation(out, a, operation);
+    let c = put_operand(out, b, operand1);
+    put_operand(out, c, operand2);
+}
+
+fn same(a: &[u8], b: &[u8]) -> bool {
+    if a.len() != b.len() {
+        return false;
+    }
+    let mut i = 0;
+    while i < a.len() {
+        if a[i] != b[i] {
+            return false;
+        }
+        i += 1;
+    }
+    true
+}
+
+fn fields_agree(fields: &[u8], command: DecodedCommand) -> bool {
+    let mut ours = [0u8; 17];
+    put_fields(&mut ours, command);
+    same(fields, &ours)
+}
+
+fn bytes_agree(bytes: &[u8], command: DecodedCommand) -> bool {
+    let mut ours = [0u8; 12];
+    match nav_encode::encode(command, &mut ours) {
+        Verdict::Fine => same(bytes, &ours),
+        Verdict::Refused(_) => false,
+    }
+}
+
+fn text_agrees(line: &[u8], command: DecodedCommand) -> bool {
+    let mut ours = [0u8; 112];
+    match nav_list::list(command, &mut ours, 0) {
+        Listed::At(end) => {
+            if end <= 112 {
+                return same(line, &ours[..end]);
+            }
+            false
+        }
+        Listed::Refused(_) => false,
+    }
+}
+
+// A record without its text: the command, its bytes with the ignored bits cleared, its fields, and the text's length.
+fn agrees(head: &[u8], line: &[u8]) -> bool
+    requires { ⌜ length (now head) ≡ 42 ⌝ }
+{
+    let bytes = [
+        head[0],
+        head[1],
+        head[2],
+        head[3],
+        head[4],
+        head[5],
+        head[6],
+        head[7],
+        head[8],
+        head[9],
+        head[10],
+        head[11],
+    ];
+    let command = DecodedCommand::decode(&bytes);
+    let encoded = bytes_agree(&head[12..24], command);
+    let decoded = fields_agree(&head[24..41], command);
+    let listed = text_agrees(line, command);
+    encoded & decoded & listed
+}
+
+fn wide(byte: u8) -> usize {
+    byte as usize
+}
+
+fn replay_one(input: &[u8], at: usize) -> Replayed
+    requires { ⌜ at + 42 ≤ length (now input) ⌝ }
+    ensures { λ r. ⌜ Onward at (length (now (input .entry))) r ⌝ }
+{
+    let from = at + 42;
+    let count = wide(input[at + 41]);
+    if input.len() - from < count {
+        return Replayed::Cut;
+    }
+    let to = from + count;
+    Replayed::Next(to, agrees(&input[at..from], &input[from..to]))
+}
+
+fn print(number: u64, words: &[u8]) {
+    io::print_decimal(STDOUT_FILENO, number);
+    io::write_all(STDOUT_FILENO, words);
+}
+
+fn tell(line: u64, agreed: bool) -> u64
+    ensures { λ r. ⌜ r ≤ 1 ⌝ }
+{
+    if agreed {
+        return 0;
+    }
+    print(line, b" is the number of a line that differs\n");
+    1
+}
+
+fn replay(input: &[u8]) {
+    let mut at = 0;
+    let mut lines: u64 = 0;
+    let mut wrong: u64 = 0;
+    while 42 <= input.len() - at {
+        let Replayed::Next(next, agreed) = replay_one(input, at) else {
+            io::write_all(STDOUT_FILENO, b"the last line is cut\n");
+            return;
+        };
+        lines += 1;
+        wrong += tell(lines, agreed);
+        at = next;
+    }
+    print(lines, b" commands compared\n");
+    print(wrong, b" differ\n");
+}
+
+fn main() {
+    let mut input = [0u8; 300000];
+    let count = io::read_full(STDIN_FILENO, &mut input);
+    replay(&input[..count]);
+}
