@@ -1,18 +1,28 @@
--- Laws of big-endian numbers, and what the header's verdict tells. Assumes nothing.
+-- Laws of big-endian numbers, and what the reader's answers and the header's verdict tell. Assumes nothing.
 use mathlib.Core.Path.{_≡_, refl, sym, ap, _∙_}
 use mathlib.Core.Bool.{Bool, true, false, cond}
 use mathlib.Core.List.{List, [], _∷_, _++_}
 use Prim.Native.Nat.{ℕ, _+_, _*_, _/_, _%_, _≤_, _<_}
 use native.Mathlib.Nat.{add-assoc, div-div-eq-div-mul}
 use native.Mathlib.Omega.{arith}
-use lib.Dec.{ltb, eqb}
+use lib.Dec.{leb, ltb, eqb}
 use lib.ListN.{length, getD, take, drop, replicate, length-drop, length-replicate, getD-replicate, List·getD-eq-default}
 use lib.Seq.{getD-append-add, length-take-le, ext-getD}
-use borrow.Author.Tests.{le-ltb, ltb-false, eq-eqb, eqb-true}
+use borrow.Author.Tests.{leb-true, leb-false, le-ltb, ltb-false, eq-eqb, eqb-true}
 use Rattle.laws.specs.Part.{part-cons, part-at}
-use Rattle.error.specs.declared.Refusal.the-variants.{TooLong, BadHeader}
+use Rattle.error.specs.declared.Refusal.{Refusal}
+use Rattle.error.specs.declared.Refusal.the-variants.{TooLong, BadHeader, BadBody}
 use Rattle.error.specs.declared.Verdict.the-variants.{Fine, Refused}
-use Rattle.common.specs.Rules.{be2, be4, bytes2, bytes4, limit, headerOf}
+use Rattle.common.specs.declared.Reader.{Reader}
+use Rattle.common.specs.declared.Moved.{Moved}
+use Rattle.common.specs.declared.Moved.the-variants as moved
+use Rattle.common.specs.declared.Byte.{Byte}
+use Rattle.common.specs.declared.Byte.the-variants as byte
+use Rattle.common.specs.declared.Half.{Half}
+use Rattle.common.specs.declared.Half.the-variants as half
+use Rattle.common.specs.declared.Word.{Word}
+use Rattle.common.specs.declared.Word.the-variants as word
+use Rattle.common.specs.Rules.{be2, be4, bytes2, bytes4, reader, seekOf, readU8, readU16, readU32, limit, headerOf}
 
 -- ---- numbers in a longer list
 
@@ -52,6 +62,69 @@ digits x y z w ey ez ew h =
 pub be4-bytes4 : (q : List ℕ) (x : ℕ) → x < 4294967296 → be4 (bytes4 x ++ q) 0 ≡ x
 unfolding be4 bytes4
 be4-bytes4 q x h = digits x (x / 256) (x / 65536) (x / 16777216) refl (sym (div-div-eq-div-mul x 256 256)) (sym (div-div-eq-div-mul x 65536 256)) h
+
+-- ---- what an answer of the reader tells
+
+-- a position that was reached
+pub record Reached (s : List ℕ) (to : ℕ) (r : Reader) : Type 0 where
+  pub inside : to ≤ length s
+  pub here : r .pos ≡ to
+
+-- a value that was read, and the position behind it
+pub record Took (s : List ℕ) (to value x : ℕ) (r : Reader) : Type 0 where
+  pub inside : to ≤ length s
+  pub is : x ≡ value
+  pub here : r .pos ≡ to
+
+-- which way a test went, from the answer that it picked
+yes : {A : Type 0} (t : Bool) {x y z : A} → (y ≡ z → ⊥) → cond t x y ≡ z → (t ≡ true) × (x ≡ z)
+yes true n e = (refl, e)
+yes false n e = absurd (n e)
+
+no : {A : Type 0} (t : Bool) (y : A) {x z : A} → (x ≡ z → ⊥) → cond t x y ≡ z → t ≡ false
+no true y n e = absurd (n e)
+no false y n e = refl
+
+-- from a position that is known by an equation
+module _ (s : List ℕ) (at : ℕ) {p : ℕ} (here : p ≡ at) where
+  pub seek-to : {m : Moved} {r : Reader} → m ≡ seekOf s p → m ≡ moved.To r → Reached s at r
+  seek-to {m} {r} e f =
+      let t = yes (leb at (length s)) (λ q. let z : _≡_ {A = ℕ} 0 1 = cc in omega arith) (sym (rw here at e) ∙ f) in
+      let q : reader at ≡ r = cc in
+      record { inside = leb-true _ _ (t .0); here = ap (λ (x : Reader). x .pos) (sym q) }
+
+  pub seek-past : {m : Moved} {w : Refusal} → m ≡ seekOf s p → m ≡ moved.Refused w → length s < at
+  seek-past e f = leb-false _ _ (no (leb at (length s)) (moved.Refused BadBody) (λ q. let z : _≡_ {A = ℕ} 0 1 = cc in omega arith) (sym (rw here at e) ∙ f))
+
+  pub u8-read : {m : Byte} {x : ℕ} {r : Reader} → m ≡ readU8 s p → m ≡ byte.Value x r → Took s (at + 1) (getD s at 0) x r
+  u8-read {m} {x} {r} e f =
+      let t = yes (leb (at + 1) (length s)) (λ q. let z : _≡_ {A = ℕ} 0 1 = cc in omega arith) (sym (rw here at e) ∙ f) in
+      let v : x ≡ getD s at 0 = cc in
+      let q : reader (at + 1) ≡ r = cc in
+      record { inside = leb-true _ _ (t .0); is = v; here = ap (λ (y : Reader). y .pos) (sym q) }
+
+  pub u8-past : {m : Byte} {w : Refusal} → m ≡ readU8 s p → m ≡ byte.Refused w → length s < at + 1
+  u8-past e f = leb-false _ _ (no (leb (at + 1) (length s)) (byte.Refused BadBody) (λ q. let z : _≡_ {A = ℕ} 0 1 = cc in omega arith) (sym (rw here at e) ∙ f))
+
+  pub u16-read : {m : Half} {x : ℕ} {r : Reader} → m ≡ readU16 s p → m ≡ half.Value x r → Took s (at + 2) (be2 s at) x r
+  u16-read {m} {x} {r} e f =
+      let t = yes (leb (at + 2) (length s)) (λ q. let z : _≡_ {A = ℕ} 0 1 = cc in omega arith) (sym (rw here at e) ∙ f) in
+      let v : x ≡ be2 s at = cc in
+      let q : reader (at + 2) ≡ r = cc in
+      record { inside = leb-true _ _ (t .0); is = v; here = ap (λ (y : Reader). y .pos) (sym q) }
+
+  pub u16-past : {m : Half} {w : Refusal} → m ≡ readU16 s p → m ≡ half.Refused w → length s < at + 2
+  u16-past e f = leb-false _ _ (no (leb (at + 2) (length s)) (half.Refused BadBody) (λ q. let z : _≡_ {A = ℕ} 0 1 = cc in omega arith) (sym (rw here at e) ∙ f))
+
+  pub u32-read : {m : Word} {x : ℕ} {r : Reader} → m ≡ readU32 s p → m ≡ word.Value x r → Took s (at + 4) (be4 s at) x r
+  u32-read {m} {x} {r} e f =
+      let t = yes (leb (at + 4) (length s)) (λ q. let z : _≡_ {A = ℕ} 0 1 = cc in omega arith) (sym (rw here at e) ∙ f) in
+      let v : x ≡ be4 s at = cc in
+      let q : reader (at + 4) ≡ r = cc in
+      record { inside = leb-true _ _ (t .0); is = v; here = ap (λ (y : Reader). y .pos) (sym q) }
+
+  pub u32-past : {m : Word} {w : Refusal} → m ≡ readU32 s p → m ≡ word.Refused w → length s < at + 4
+  u32-past e f = leb-false _ _ (no (leb (at + 4) (length s)) (word.Refused BadBody) (λ q. let z : _≡_ {A = ℕ} 0 1 = cc in omega arith) (sym (rw here at e) ∙ f))
 
 -- ---- the header
 

@@ -99,7 +99,7 @@ impl Reader {
 }
 
 // Whether n bytes from `at` lie within a length; the sum is not made, since it could pass the end of usize.
-pub fn within(at: usize, n: usize, len: usize) -> bool
+fn within(at: usize, n: usize, len: usize) -> bool
     ensures { λ r. ⌜ AtMost (at + n) len r ⌝ }
 {
     if at <= len {
@@ -110,14 +110,14 @@ pub fn within(at: usize, n: usize, len: usize) -> bool
 }
 
 // A number of two bytes, the high one first.
-pub fn join16(a: u8, b: u8) -> u16
+fn join16(a: u8, b: u8) -> u16
     ensures { λ r. ⌜ r ≡ a * 256 + b ⌝ }
 {
     (a as u16) * 256 + (b as u16)
 }
 
 // A number of four bytes.
-pub fn join32(a: u8, b: u8, c: u8, d: u8) -> u32
+fn join32(a: u8, b: u8, c: u8, d: u8) -> u32
     ensures { λ r. ⌜ r ≡ a * 16777216 + b * 65536 + c * 256 + d ⌝ }
 {
     (a as u32) * 16777216 + (b as u32) * 65536 + (c as u32) * 256 + (d as u32)

@@ -2,21 +2,25 @@
 use mathlib.Core.Path.{_≡_, refl, sym, _∙_, ap}
 use mathlib.Core.Bool.{Bool, true, false, cond}
 use mathlib.Core.List.{List}
-use Prim.Native.Nat.{ℕ, zero, suc, _+_, _*_, _-_, _≤_, _<_}
+use Prim.Native.Nat.{ℕ, zero, suc, _+_, _*_, _-_, _/_, _≤_, _<_}
 use native.Mathlib.Nat.{add-zero, add-suc, add-sub-of-le}
 use native.Mathlib.Numerals.{add-one}
 use native.Mathlib.Omega.{arith}
-use lib.Dec.{leb, eqb}
-use lib.ListN.{length}
-use borrow.Author.Tests.{le-leb, lt-leb, leb-true, leb-false, eq-eqb, ne-eqb, eqb-true, eqb-false}
-use Rattle.common.specs.Rules.{be2, headerOf}
-use Rattle.common.specs.Laws.{Headed, headed}
+use lib.Dec.{leb, ltb, eqb}
+use lib.ListN.{length, getD}
+use borrow.Author.Tests.{le-leb, lt-leb, lt-ltb, le-ltb, leb-true, leb-false, eq-eqb, ne-eqb, eqb-true, eqb-false}
+use Rattle.common.specs.declared.Reader.{Reader}
+use Rattle.common.specs.declared.Moved.{Moved}
+use Rattle.common.specs.declared.Moved.the-variants as moved
+use Rattle.common.specs.Rules.{be2, be4, reader, headerOf}
+use Rattle.common.specs.Laws.{Took, Headed, headed}
 use Rattle.error.specs.Rules.{firstOf}
 use Rattle.error.specs.declared.Refusal.{Refusal}
-use Rattle.error.specs.declared.Refusal.the-variants.{BadBody}
+use Rattle.error.specs.declared.Refusal.the-variants.{BadBody, BadEntry}
 use Rattle.error.specs.declared.Verdict.{Verdict}
 use Rattle.error.specs.declared.Verdict.the-variants.{Fine, Refused}
-use Rattle.index_bdmv.specs.Rules.{indx, appInfoVerdict, entryVerdict, entriesVerdict, startOf, statedVerdict, titlesVerdict, indexesVerdict, verdictOf, titleCount, placeOf}
+use Rattle.utf8.specs.Rules.{isUtf8}
+use Rattle.index_bdmv.specs.Rules.{indx, appInfoVerdict, nameAt, entryVerdict, entriesVerdict, startOf, statedVerdict, titlesVerdict, indexesVerdict, verdictOf, titleCount, placeOf}
 use Rattle.index_bdmv.specs.declared.Place.{Place}
 use Rattle.index_bdmv.specs.declared.Place.the-variants.{At, Nowhere}
 
@@ -37,6 +41,25 @@ yes-fine false a b r n e = let z : _≡_ {A = ℕ} 0 1 = cc in absurd (omega ari
 pub entry-in : (s : List ℕ) (at : ℕ) → entryVerdict s at ≡ Fine → at + 12 ≤ length s
 unfolding entryVerdict
 entry-in s at e = leb-true _ _ (yes-fine (leb (at + 12) (length s)) _ (Refused BadBody) BadBody refl e .0)
+
+-- how each answer on the twelve bytes at a place is found, from the byte that was read there
+module _ (s : List ℕ) (at : ℕ) where
+  pub entry-past : length s < at + 12 → entryVerdict s at ≡ Refused BadBody
+  unfolding entryVerdict
+  entry-past h = simp (lt-leb _ _ h)
+
+  module _ {b : ℕ} (inside : at + 12 ≤ length s) (read : b ≡ getD s at 0) where
+    pub entry-hdmv : b / 64 ≡ 1 → entryVerdict s at ≡ Fine
+    unfolding entryVerdict
+    entry-hdmv k = simp (le-leb _ _ inside, eq-eqb _ _ (rw read at k))
+
+    pub entry-bdj : (b / 64 ≡ 1 → ⊥) → b / 64 ≡ 2 → (t : Bool) → isUtf8 (nameAt s at) ≡ t → entryVerdict s at ≡ cond t Fine (Refused BadEntry)
+    unfolding entryVerdict
+    entry-bdj n k t u = simp (le-leb _ _ inside, ne-eqb _ _ (rw read at n), eq-eqb _ _ (rw read at k), u)
+
+    pub entry-bad : (b / 64 ≡ 1 → ⊥) → (b / 64 ≡ 2 → ⊥) → entryVerdict s at ≡ Refused BadEntry
+    unfolding entryVerdict
+    entry-bad n m = simp (le-leb _ _ inside, ne-eqb _ _ (rw read at n), ne-eqb _ _ (rw read at m))
 
 -- one entry more
 pub entries-more : (s : List ℕ) (at n : ℕ) → entriesVerdict s at n ≡ Fine → entriesVerdict s at (n + 1) ≡ entryVerdict s (at + 12 * n)
@@ -70,6 +93,95 @@ pub entries-made : (s : List ℕ) (at n : ℕ) → ((k : ℕ) → k < n → entr
 unfolding entriesVerdict
 entries-made s at zero h = refl
 entries-made s at (suc n) h = rw (entries-made s at n (λ k p. h k (omega arith)), h n (omega arith))
+
+-- ---- positions
+
+-- a test that passes moves on
+unfoldable pub movedAs : Verdict → ℕ → Moved
+movedAs Fine p = moved.To (reader p)
+movedAs (Refused r) p = moved.Refused r
+
+pub moved-fine : (v : Verdict) (p : ℕ) (r : Reader) → v ≡ Fine → r .pos ≡ p → moved.To r ≡ movedAs v p
+unfolding movedAs
+moved-fine v p r e h = rw e (ap (λ (n : ℕ). moved.To (reader n)) h)
+
+pub moved-bad : (v : Verdict) (p : ℕ) (w : Refusal) → v ≡ Refused w → moved.Refused w ≡ movedAs v p
+unfolding movedAs
+moved-bad v p w e = rw e
+
+pub moved-to : (v : Verdict) (p : ℕ) {m : Moved} {r : Reader} → m ≡ movedAs v p → m ≡ moved.To r → (v ≡ Fine) × (r .pos ≡ p)
+unfolding movedAs
+moved-to Fine p {m} {r} e f = let q : reader p ≡ r = cc in (refl, ap (λ (x : Reader). x .pos) (sym q))
+moved-to (Refused w) p e f = let z : _≡_ {A = ℕ} 0 1 = cc in absurd (omega arith)
+
+pub moved-refused : (v : Verdict) (p : ℕ) {m : Moved} {w : Refusal} → m ≡ movedAs v p → m ≡ moved.Refused w → v ≡ Refused w
+unfolding movedAs
+moved-refused Fine p e f = let z : _≡_ {A = ℕ} 0 1 = cc in absurd (omega arith)
+moved-refused (Refused u) p {m} {w} e f = let q : u ≡ w = cc in ap Refused q
+
+-- ---- the parts before the entries
+
+same : {A : Type 0} (b : Bool) (x : A) → cond b x x ≡ x
+same true x = refl
+same false x = refl
+
+module _ (s : List ℕ) where
+  -- the AppInfo
+  pub app-short : length s < 46 → Refused BadBody ≡ appInfoVerdict s
+  unfolding appInfoVerdict
+  app-short h = simp (lt-ltb _ _ h)
+
+  pub app-few : be4 s 40 < 2 → Refused BadBody ≡ appInfoVerdict s
+  unfolding appInfoVerdict
+  app-few h = simp (lt-ltb _ _ h) (sym (same (ltb (length s) 46) (Refused BadBody)))
+
+  pub app-past : length s < 44 + be4 s 40 → Refused BadBody ≡ appInfoVerdict s
+  unfolding appInfoVerdict
+  app-past h = simp (lt-leb _ _ h, same (ltb (be4 s 40) 2) (Refused BadBody)) (sym (same (ltb (length s) 46) (Refused BadBody)))
+
+  pub app-fine : 2 ≤ be4 s 40 → 44 + be4 s 40 ≤ length s → Fine ≡ appInfoVerdict s
+  unfolding appInfoVerdict
+  app-fine h g = let l : 46 ≤ length s = omega arith in simp (le-ltb _ _ l, le-ltb _ _ h, le-leb _ _ g)
+
+  -- the stated end of the Indexes
+  module _ (p : ℕ) where
+    pub stated-short : length s < p + 4 → statedVerdict s p ≡ Refused BadBody
+    unfolding statedVerdict
+    stated-short h = simp (lt-leb _ _ h)
+
+    pub stated-past : length s < p + 4 + be4 s p → statedVerdict s p ≡ Refused BadBody
+    unfolding statedVerdict
+    stated-past h = simp (lt-leb _ _ h) (same (leb (p + 4) (length s)) (Refused BadBody))
+
+    pub stated-fine : p + 4 + be4 s p ≤ length s → statedVerdict s p ≡ Fine
+    unfolding statedVerdict
+    stated-fine h = let l : p + 4 ≤ length s = omega arith in simp (le-leb _ _ l, le-leb _ _ h)
+
+    -- there is no other refusal
+    pub stated-bad : {w : Refusal} → statedVerdict s p ≡ Refused w → statedVerdict s p ≡ Refused BadBody
+    stated-bad {w} e = go (leb (p + 4 + be4 s p) (length s)) refl
+      where
+        go : (b : Bool) → leb (p + 4 + be4 s p) (length s) ≡ b → statedVerdict s p ≡ Refused BadBody
+        go true q = let f = stated-fine (leb-true _ _ q) in let z : _≡_ {A = ℕ} 0 1 = cc in absurd (omega arith)
+        go false q = stated-past (leb-false _ _ q)
+
+-- the number of titles, and the titles, from where the number stands
+unfoldable pub titlesFrom : List ℕ → ℕ → Verdict
+titlesFrom s p = cond (leb (p + 2) (length s)) (entriesVerdict s (p + 2) (be2 s p)) (Refused BadBody)
+
+module _ (s : List ℕ) (p : ℕ) where
+  pub titles-past : length s < p + 2 → Refused BadBody ≡ titlesFrom s p
+  unfolding titlesFrom
+  titles-past h = simp (lt-leb _ _ h)
+
+  pub titles-read : {n : ℕ} {r : Reader} → Took s (p + 2) (be2 s p) n r → entriesVerdict s (r .pos) n ≡ titlesFrom s p
+  unfolding titlesFrom
+  titles-read t = rw (t .is, t .here) (simp (le-leb _ _ (t .inside)))
+
+  -- the number stands behind two entries
+  pub titles-from : {q : ℕ} → q ≡ p + 4 + 12 * 2 → titlesFrom s q ≡ titlesVerdict s p
+  unfolding titlesFrom titlesVerdict
+  titles-from {q} e = let f : q ≡ p + 28 = omega arith in let g : p + 28 + 2 ≡ p + 30 = omega arith in rw (f, g)
 
 -- ---- the whole file
 

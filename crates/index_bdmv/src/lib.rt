@@ -1,20 +1,23 @@
 // index.bdmv: which files are read, what an entry says, and which object it leads to (the Rust's index_bdmv.rs).
-use common::be16;
-use common::be32;
+use common::Byte;
+use common::Half;
+use common::Moved;
+use common::Reader;
+use common::Word;
 use common::byte_at;
 use common::half_at;
 use common::header;
-use common::within;
 use common::word_at;
 use error::Refusal;
 use error::Verdict;
 use utf8::is_utf8_name;
 ghost use mathlib.Core.Path.{_≡_};
 ghost use Prim.Native.Nat.{_+_, _*_, _≤_};
+ghost use lib.ListN.{length};
 ghost use Rattle.error.specs.Rules.{firstOf};
 ghost use Rattle.error.specs.declared.Verdict.the-variants.{Fine};
-ghost use Rattle.index_bdmv.specs.Rules.{appInfoVerdict, appInfoOf, entryVerdict, entriesVerdict, statedVerdict, indexesVerdict, verdictOf, titleCount, leadAt, resolveOf, objectAt, indexOf, parseOf, isEntry, entryFrom, placeOf, entryOf, nameFrom, nameOf, resolveMovieObject};
-ghost use Rattle.index_bdmv.specs.Laws.{Selected};
+ghost use Rattle.index_bdmv.specs.Rules.{appInfoVerdict, appInfoOf, entryVerdict, entriesVerdict, startOf, statedVerdict, indexesVerdict, verdictOf, titleCount, leadAt, resolveOf, objectAt, indexOf, parseOf, isEntry, entryFrom, placeOf, entryOf, nameFrom, nameOf, resolveMovieObject};
+ghost use Rattle.index_bdmv.specs.Laws.{movedAs, titlesFrom, Selected};
 
 // The letters INDX.
 const INDX: u32 = 0x494E4458;
@@ -138,94 +141,119 @@ pub fn verdict(index: &[u8]) -> Verdict
     let Verdict::Fine = app else {
         return app;
     };
-    indexes_verdict(index, word_at(index, 8))
+    indexes_verdict(index)
 }
 
 // Whether the AppInfo has its two bytes and ends within the file.
 fn app_info_verdict(index: &[u8]) -> Verdict
     ensures { λ r. ⌜ r ≡ appInfoVerdict (now (index .entry)) ⌝ }
 {
-    if index.len() < 46 {
+    let Moved::To(at) = Reader::new().seek(index, 40) else {
         return Verdict::Refused(Refusal::BadBody);
-    }
-    let len = be32(index, 40) as usize;
-    if len < 2 {
-        return Verdict::Refused(Refusal::BadBody);
-    }
-    if within(44, len, index.len()) {
-        return Verdict::Fine;
-    }
-    Verdict::Refused(Refusal::BadBody)
-}
-
-// Whether the Indexes end within the file and their entries are good.
-fn indexes_verdict(index: &[u8], start: u32) -> Verdict
-    ensures { λ r. ⌜ r ≡ indexesVerdict (now (index .entry)) start ⌝ }
-{
-    let at = start as usize;
-    let stated = stated_verdict(index, at);
-    let Verdict::Fine = stated else {
-        return stated;
     };
-    let special = entries_verdict(index, at + 4, 2);
-    let Verdict::Fine = special else {
-        return special;
+    let Word::Value(length, info) = at.read_u32(index) else {
+        return Verdict::Refused(Refusal::BadBody);
     };
-    if within(at, 30, index.len()) {
-        return entries_verdict(index, at + 30, be16(index, at + 28));
-    }
-    Verdict::Refused(Refusal::BadBody)
-}
-
-// Whether the stated end lies within the file.
-fn stated_verdict(index: &[u8], at: usize) -> Verdict
-    ensures { λ r. ⌜ r ≡ statedVerdict (now (index .entry)) at ⌝ }
-{
-    if within(at, 4, index.len()) {
-        let len = be32(index, at) as usize;
-        if within(at + 4, len, index.len()) {
-            return Verdict::Fine;
-        }
+    if length < 2 {
         return Verdict::Refused(Refusal::BadBody);
     }
-    Verdict::Refused(Refusal::BadBody)
-}
-
-// The first refusal among n entries.
-fn entries_verdict(index: &[u8], at: usize, n: u16) -> Verdict
-    ensures { λ r. ⌜ r ≡ entriesVerdict (now (index .entry)) at n ⌝ }
-{
-    let mut p = at;
-    let mut k: u16 = 0;
-    while k < n {
-        let found = entry_verdict(index, p);
-        let Verdict::Fine = found else {
-            return found;
-        };
-        p += 12;
-        k += 1;
-    }
+    let Moved::To(_) = info.skip(index, length as usize) else {
+        return Verdict::Refused(Refusal::BadBody);
+    };
     Verdict::Fine
 }
 
-// Whether the twelve bytes at a place are an entry.
-fn entry_verdict(index: &[u8], at: usize) -> Verdict
-    ensures { λ r. ⌜ r ≡ entryVerdict (now (index .entry)) at ⌝ }
+// Whether the Indexes end within the file and their entries are good.
+fn indexes_verdict(index: &[u8]) -> Verdict
+    requires { ⌜ 40 ≤ length (now index) ⌝ }
+    ensures { λ r. ⌜ r ≡ indexesVerdict (now (index .entry)) (startOf (now (index .entry))) ⌝ }
 {
-    if within(at, 12, index.len()) {
-        let kind = index[at] / 64;
-        if kind == 1 {
-            return Verdict::Fine;
-        }
-        if kind == 2 {
-            if is_utf8_name(index, at + 4) {
-                return Verdict::Fine;
-            }
-            return Verdict::Refused(Refusal::BadEntry);
-        }
-        return Verdict::Refused(Refusal::BadEntry);
+    let Moved::To(special) = open_indexes(index) else {
+        return Verdict::Refused(Refusal::BadBody);
+    };
+    let passed = parse_objects(index, special, 2);
+    match passed {
+        Moved::Refused(why) => Verdict::Refused(why),
+        Moved::To(number) => titles_verdict(index, number),
     }
-    Verdict::Refused(Refusal::BadBody)
+}
+
+// To where bytes 8..11 say, and past the length there; the stated end lies within the file.
+fn open_indexes(index: &[u8]) -> Moved
+    requires { ⌜ 40 ≤ length (now index) ⌝ }
+    ensures { λ r. ⌜ r ≡ movedAs (statedVerdict (now (index .entry)) (startOf (now (index .entry)))) (startOf (now (index .entry)) + 4) ⌝ }
+{
+    let Moved::To(at) = Reader::new().seek(index, 8) else {
+        return Moved::Refused(Refusal::BadBody);
+    };
+    let Word::Value(start, _) = at.read_u32(index) else {
+        return Moved::Refused(Refusal::BadBody);
+    };
+    let Moved::To(indexes) = at.seek(index, start as usize) else {
+        return Moved::Refused(Refusal::BadBody);
+    };
+    let Word::Value(length, body) = indexes.read_u32(index) else {
+        return Moved::Refused(Refusal::BadBody);
+    };
+    let Moved::To(_) = body.skip(index, length as usize) else {
+        return Moved::Refused(Refusal::BadBody);
+    };
+    Moved::To(body)
+}
+
+// Whether the number of titles, which stands at a position, and the titles behind it are good.
+fn titles_verdict(index: &[u8], at: Reader) -> Verdict
+    ensures { λ r. ⌜ r ≡ titlesFrom (now (index .entry)) (at .pos) ⌝ }
+{
+    let Half::Value(n, first) = at.read_u16(index) else {
+        return Verdict::Refused(Refusal::BadBody);
+    };
+    let passed = parse_objects(index, first, n);
+    match passed {
+        Moved::Refused(why) => Verdict::Refused(why),
+        Moved::To(_) => Verdict::Fine,
+    }
+}
+
+// Past n entries, or the first refusal among them.
+fn parse_objects(index: &[u8], first: Reader, n: u16) -> Moved
+    ensures { λ r. ⌜ r ≡ movedAs (entriesVerdict (now (index .entry)) (first .pos) n) (first .pos + 12 * n) ⌝ }
+{
+    let mut at = first;
+    let mut k: u16 = 0;
+    while k < n {
+        let passed = parse_object(index, at);
+        let Moved::To(next) = passed else {
+            return passed;
+        };
+        at = next;
+        k += 1;
+    }
+    Moved::To(at)
+}
+
+// Past one entry; all of its twelve bytes are read before they are judged.
+fn parse_object(index: &[u8], entry: Reader) -> Moved
+    ensures { λ r. ⌜ r ≡ movedAs (entryVerdict (now (index .entry)) (entry .pos)) (entry .pos + 12) ⌝ }
+{
+    let at = entry.pos;
+    let Byte::Value(first, rest) = entry.read_u8(index) else {
+        return Moved::Refused(Refusal::BadBody);
+    };
+    let Moved::To(next) = rest.skip(index, 11) else {
+        return Moved::Refused(Refusal::BadBody);
+    };
+    let kind = first / 64;
+    if kind == 1 {
+        return Moved::To(next);
+    }
+    if kind == 2 {
+        if is_utf8_name(index, at + 4) {
+            return Moved::To(next);
+        }
+        return Moved::Refused(Refusal::BadEntry);
+    }
+    Moved::Refused(Refusal::BadEntry)
 }
 
 // The object that an entry leads to; first playback, top menu and titles alike.

@@ -11,8 +11,12 @@ use lib.ListN.{length, getD, set, take, drop, length-drop, length-set}
 use lib.Seq.{length-take-le, getD-set-same, getD-set-other}
 use borrow.Author.Count.{below-more}
 use borrow.Author.Tests.{le-leb, lt-leb, leb-true, leb-false, lt-ltb, le-ltb, ltb-true, ltb-false}
-use Rattle.common.specs.Rules.{be2, be4, limit, headerOf}
-use Rattle.common.specs.Laws.{Headed, headed, header-fine, be2-below}
+use Rattle.common.specs.declared.Reader.{Reader}
+use Rattle.common.specs.declared.Moved.the-variants as moved
+use Rattle.common.specs.declared.Half.{Half}
+use Rattle.common.specs.declared.Half.the-variants as half
+use Rattle.common.specs.Rules.{be2, be4, seekOf, readU16, limit, headerOf}
+use Rattle.common.specs.Laws.{u16-read, u16-past, Headed, headed, header-fine, be2-below}
 use Rattle.error.specs.declared.Refusal.{Refusal}
 use Rattle.error.specs.declared.Refusal.the-variants.{BadBody}
 use Rattle.error.specs.declared.Verdict.{Verdict}
@@ -32,6 +36,19 @@ place-suc s n = rw (add-one n)
 -- the next place, from a place that is known by an equation: what a turn of a walk asks
 pub place-next : (s : List ℕ) (n p : ℕ) → p ≡ place s n → place s (n + 1) ≡ p + 4 + 12 * be2 s (p + 2)
 place-next s n p e = rw e (place-suc s n)
+
+pub place-after : (s : List ℕ) (n p : ℕ) → p ≡ place s n → next s p ≡ place s (n + 1)
+unfolding place next
+place-after s n p e = rw (add-one n, e)
+
+-- past one object, from its number of commands and the position behind it
+pub next-from : (s : List ℕ) (p : ℕ) {b n : ℕ} → n ≡ be2 s (p + 2) → b ≡ p + 2 + 2 → b + 12 * n ≡ next s p
+unfolding next
+next-from s p en eb = omega (arith, en, eb)
+
+pub next-past : (s : List ℕ) (p : ℕ) → length s < p + 4 → seekOf s (next s p) ≡ moved.Refused BadBody
+unfolding next
+next-past s p h = let l : length s < p + 4 + 12 * be2 s (p + 2) = omega arith in simp (lt-leb _ _ l)
 
 -- m objects further on is no earlier
 grows : (s : List ℕ) (n m : ℕ) → place s n ≤ place s (n + m)
@@ -89,6 +106,52 @@ module _ (s : List ℕ) where
       go Fine eh false ea b eb = no BadBody (verdict-stated eh (leb-false _ _ ea))
       go Fine eh true ea false eb = no BadBody (verdict-last eh (leb-false _ _ eb))
       go Fine eh true ea true eb = record { head = headed mobj s eh; stated = leb-true _ _ ea; last = leb-true _ _ eb }
+
+-- ---- the head of the body
+
+-- the number of objects and the position behind it, where the stated length lies within the file
+unfoldable pub countRead : List ℕ → Half
+countRead s = cond (leb (44 + be4 s 40) (length s)) (readU16 s 76) (half.Refused BadBody)
+
+-- how it is found
+module _ (s : List ℕ) where
+  pub count-read : (a : ℕ) → a ≡ 76 → 44 + be4 s 40 ≤ length s → readU16 s a ≡ countRead s
+  unfolding countRead
+  count-read a e h = simp (e, le-leb _ _ h)
+
+  pub count-stated : length s < 44 + be4 s 40 → countRead s ≡ half.Refused BadBody
+  unfolding countRead
+  count-stated h = simp (lt-leb _ _ h)
+
+  pub count-short : length s < 78 → countRead s ≡ half.Refused BadBody
+  unfolding countRead
+  count-short h = simp (lt-leb _ _ h) (same (leb (44 + be4 s 40) (length s)) (half.Refused BadBody))
+
+-- and what it tells
+pub record Counted (s : List ℕ) (n : ℕ) (r : Reader) : Type 0 where
+  pub stated : 44 + be4 s 40 ≤ length s
+  pub inside : 78 ≤ length s
+  pub count : n ≡ countOf s
+  pub here : r .pos ≡ 78
+
+module _ (s : List ℕ) where
+  pub counted : {m : Half} {n : ℕ} {r : Reader} → m ≡ countRead s → m ≡ half.Value n r → Counted s n r
+  unfolding countRead countOf
+  counted {m} {n} {r} e f = go (leb (44 + be4 s 40) (length s)) refl (sym e ∙ f)
+    where
+      go : (b : Bool) → leb (44 + be4 s 40) (length s) ≡ b → cond b (readU16 s 76) (half.Refused BadBody) ≡ half.Value n r → Counted s n r
+      go true q h =
+          let t = u16-read s 76 refl refl h in
+          record { stated = leb-true _ _ q; inside = t .inside; count = t .is; here = t .here }
+      go false q h = let z : _≡_ {A = ℕ} 0 1 = cc in absurd (omega arith)
+
+  pub verdict-uncounted : {m : Half} {w : Refusal} → headerOf mobj s ≡ Fine → m ≡ countRead s → m ≡ half.Refused w → verdictOf s ≡ Refused BadBody
+  unfolding countRead
+  verdict-uncounted {m} {w} h e f = go (leb (44 + be4 s 40) (length s)) refl (sym e ∙ f)
+    where
+      go : (b : Bool) → leb (44 + be4 s 40) (length s) ≡ b → cond b (readU16 s 76) (half.Refused BadBody) ≡ half.Refused w → verdictOf s ≡ Refused BadBody
+      go true q r = verdict-last s h (omega (arith, u16-past s 76 refl refl r, place-from s (countOf s)))
+      go false q r = verdict-stated s h (leb-false _ _ q)
 
 -- ---- an object and its commands
 
@@ -169,15 +232,20 @@ pub filled-placed : (s t : List ℕ) → Filled s (countOf s) t → countOf s �
 filled-placed s t f h = record { room = h; at = λ k b. f .at k b (omega arith) }
 
 -- what a walk over n heads answers: whether all of them lie within the file, and then their places
-pub record Heads (s : List ℕ) (n : ℕ) (t : List ℕ) (r : Bool) : Type 0 where
-  pub yes : r ≡ true → place s n ≤ length s
-  pub no : r ≡ false → length s < place s n
-  pub filled : r ≡ true → Filled s n t
+pub record Heads (s : List ℕ) (n : ℕ) (t : List ℕ) (r : Verdict) : Type 0 where
+  pub judged : r ≡ cond (leb (place s n) (length s)) Fine (Refused BadBody)
+  pub filled : r ≡ Fine → Filled s n t
 
 -- what the walk answers in each case
 module _ (s t : List ℕ) where
   pub walked-refused : (v : Verdict) (r : Refusal) → v ≡ Refused r → verdictOf s ≡ Refused r → Walked s t v
   walked-refused v r e f = record { judged = e ∙ sym f; placed = λ g h. let z : _≡_ {A = ℕ} 0 1 = cc in absurd (omega arith) }
 
-  pub walked-fine : Good s → Filled s (countOf s) t → Walked s t Fine
-  walked-fine g f = record { judged = sym (verdict-good s g); placed = λ e h. filled-placed s t f h }
+  -- behind a good header and a good count the walk decides
+  pub walked-heads : (v : Verdict) (n : ℕ) (r : Reader) → headerOf mobj s ≡ Fine → Counted s n r → Heads s n t v → Walked s t v
+  unfolding verdictOf bodyOf
+  walked-heads v n r h c w =
+      record {
+        judged = rw (c .count) at (w .judged) ∙ sym (simp (h, le-leb _ _ (c .stated)));
+        placed = λ e g. filled-placed s t (rw (c .count) at (w .filled e)) g;
+      }

@@ -1,18 +1,21 @@
 // MovieObject.bdmv: which files are read, what an object's head says, and its commands as a part of the file (the Rust's movie_object.rs).
+use common::Half;
+use common::Moved;
+use common::Reader;
+use common::Word;
 use common::be16;
 use common::be32;
 use common::half_at;
 use common::header;
-use common::within;
 use error::Refusal;
 use error::Verdict;
 ghost use mathlib.Core.Path.{_≡_};
 ghost use Prim.Native.Nat.{_+_, _*_, _≤_, _<_};
 ghost use lib.ListN.{length, set, take, drop};
-ghost use Rattle.common.specs.Rules.{be2};
+ghost use Rattle.common.specs.Rules.{be2, seekOf};
 ghost use Rattle.error.specs.declared.Verdict.the-variants.{Fine};
-ghost use Rattle.movie_object.specs.Rules.{countOf, place, verdictOf, commandsOf, Placed, Walked, parseOf, headAt, foundAs, onDisc, headOf, objectOf, partOf};
-ghost use Rattle.movie_object.specs.Laws.{Heads};
+ghost use Rattle.movie_object.specs.Rules.{countOf, next, place, verdictOf, commandsOf, Placed, Walked, parseOf, headAt, foundAs, onDisc, headOf, objectOf, partOf};
+ghost use Rattle.movie_object.specs.Laws.{countRead, Heads};
 
 // The letters MOBJ.
 const MOBJ: u32 = 0x4D4F424A;
@@ -102,37 +105,60 @@ pub fn walk_places(file: &[u8], places: &mut [u32]) -> Verdict
     let Verdict::Fine = head else {
         return head;
     };
-    if file.len() < 78 {
+    let Half::Value(count, first) = read_count(file) else {
         return Verdict::Refused(Refusal::BadBody);
-    }
-    let stated = be32(file, 40) as usize;
-    if within(44, stated, file.len()) {
-        let count = be16(file, 76);
-        if walk(file, count, places) {
-            return Verdict::Fine;
-        }
-        return Verdict::Refused(Refusal::BadBody);
-    }
-    Verdict::Refused(Refusal::BadBody)
+    };
+    walk(file, first, count, places)
+}
+
+// The number of objects and the position behind it, where the stated length lies within the file.
+fn read_count(file: &[u8]) -> Half
+    ensures { λ r. ⌜ r ≡ countRead (now (file .entry)) ⌝ }
+{
+    let Moved::To(at) = Reader::new().seek(file, 40) else {
+        return Half::Refused(Refusal::BadBody);
+    };
+    let Word::Value(length, body) = at.read_u32(file) else {
+        return Half::Refused(Refusal::BadBody);
+    };
+    let Moved::To(_) = body.skip(file, length as usize) else {
+        return Half::Refused(Refusal::BadBody);
+    };
+    let Moved::To(count) = body.skip(file, 32) else {
+        return Half::Refused(Refusal::BadBody);
+    };
+    count.read_u16(file)
 }
 
 // Whether n objects lie within the file; the places of all that were met are put into the table.
-fn walk(file: &[u8], n: u16, places: &mut [u32]) -> bool
-    requires { ⌜ length (now file) ≤ 16777216 ⌝ }
+fn walk(file: &[u8], first: Reader, n: u16, places: &mut [u32]) -> Verdict
+    requires { ⌜ (length (now file) ≤ 16777216) × (78 ≤ length (now file)) × (first .pos ≡ 78) ⌝ }
     ensures { λ r. ⌜ Heads (now (file .entry)) n (now (places .exit)) r ⌝ }
 {
-    let mut at: usize = 78;
+    let mut at = first;
     let mut k: u16 = 0;
     while k < n {
-        if within(at, 4, file.len()) {
-            put_place(places, k as usize, at as u32);
-            at = at + 4 + 12 * (be16(file, at + 2) as usize);
-            k += 1;
-        } else {
-            return false;
-        }
+        put_place(places, k as usize, at.pos as u32);
+        let Moved::To(next) = skip_object(file, at) else {
+            return Verdict::Refused(Refusal::BadBody);
+        };
+        at = next;
+        k += 1;
     }
-    if at <= file.len() { true } else { false }
+    Verdict::Fine
+}
+
+// Past one object: two flag bytes, the number of commands, and the commands.
+fn skip_object(file: &[u8], head: Reader) -> Moved
+    ensures { λ r. ⌜ r ≡ seekOf (now (file .entry)) (next (now (file .entry)) (head .pos)) ⌝ }
+{
+    let Moved::To(at) = head.skip(file, 2) else {
+        return Moved::Refused(Refusal::BadBody);
+    };
+    let Half::Value(count, body) = at.read_u16(file) else {
+        return Moved::Refused(Refusal::BadBody);
+    };
+    body.skip(file, 12 * (count as usize))
 }
 
 // A number into a table, where the table has such a place.
