@@ -1,0 +1,9 @@
+use Rattle.numbers.proofs.Laws.{command-named, numbers-are}
+use Rattle.numbers.proofs.numbers_name_commands.Statement.{statement}
+use Rattle.numbers.proofs.numbers_name_commands.Tie as tie
+
+returns : tie.Need-returns
+returns c = (command-named, numbers-are)
+
+pub numbers-name-commands-spec : {M : Type 1} → statement M
+numbers-name-commands-spec = tie.close (tie.spec returns)

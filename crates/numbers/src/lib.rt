@@ -1,0 +1,529 @@
+// The numbers of answers, of sessions and of decoded commands, as the C interface hands them out; the Rust has its enums alone.
+ghost use mathlib.Core.Path.{_≡_};
+ghost use Prim.Native.Nat.{_%_};
+ghost use Rattle.error.specs.Rules.{numberOf as refusalNumber};
+ghost use Rattle.laws.specs.Firsts.{all};
+ghost use Rattle.nav_command.specs.Rules.{numberOf};
+ghost use Rattle.numbers.specs.Rules.{verdictNumber, flagNumber, pair, unknownOf, request, requestOf, stepNumbers, bare, bad, requesting, optionOf, playing, driveNumbers, runNumbers, checkNumbers, sessionNumbers, sessionOf, budgetNumbers, budgetsOf, groupPair, bankKind, operandPair, commandNumbers, groupNamed, operandNamed, sheetNamed, operationNamed, commandNamed, sameAt, isCommand};
+ghost use Rattle.numbers.specs.Theorems.{NumbersNameCommands};
+use disc_check::DiscCheck;
+use error::Refusal;
+use error::Verdict;
+use mobj_runner::RunOutcome;
+use nav_command::BranchOp;
+use nav_command::CommandGroup;
+use nav_command::CompareOp;
+use nav_command::DecodedCommand;
+use nav_command::Operand;
+use nav_command::Operation;
+use nav_command::RegisterBank;
+use nav_command::SetOp;
+use nav_command::SystemOp;
+use nav_driver::DriveOutcome;
+use nav_driver::Option32;
+use nav_driver::PlayRequest;
+use session::Budgets;
+use session::Session;
+use session::number_at;
+use vm::NavRequest;
+use vm::Step;
+
+// A kind and its value: of a group, an operand, an option.
+pub struct Pair {
+    pub kind: u32,
+    pub value: u32,
+}
+
+// A request: its operation's place on the sheet, two operands, and the code of an unknown system request.
+pub struct Request {
+    pub op: u32,
+    pub first: u32,
+    pub second: u32,
+    pub code: u32,
+}
+
+// Refusals and flags.
+
+pub fn refusal_number(why: Refusal) -> u32
+    ensures { λ r. ⌜ r ≡ refusalNumber why ⌝ }
+{
+    why.number() as u32
+}
+
+// 0, or the refusal's number.
+pub fn verdict_number(found: Verdict) -> u32
+    ensures { λ r. ⌜ r ≡ verdictNumber found ⌝ }
+{
+    match found {
+        Verdict::Fine => 0,
+        Verdict::Refused(why) => refusal_number(why),
+    }
+}
+
+fn flag_number(flag: bool) -> u32
+    ensures { λ r. ⌜ r ≡ flagNumber flag ⌝ }
+{
+    if flag { 1 } else { 0 }
+}
+
+// Requests.
+
+fn pair_of(a: u32, b: u32) -> Pair
+    ensures { λ r. ⌜ r ≡ pair a b ⌝ }
+{
+    Pair { kind: a, value: b }
+}
+
+fn operation_number(operation: Operation) -> u32
+    ensures { λ r. ⌜ r ≡ numberOf operation ⌝ }
+{
+    match operation {
+        Operation::Branch(op) => nav_encode::branch_number(op) as u32,
+        Operation::Compare(op) => 14 + nav_encode::compare_number(op) as u32,
+        Operation::Set(op) => 21 + nav_encode::set_number(op) as u32,
+        Operation::System(op) => 36 + nav_encode::system_number(op) as u32,
+        Operation::Unknown {
+            sub_grp: _,
+            selector: _,
+        } => 0,
+    }
+}
+
+fn unknown_of(operation: Operation) -> Pair
+    ensures { λ r. ⌜ r ≡ unknownOf operation ⌝ }
+{
+    match operation {
+        Operation::Branch(_) => pair_of(0, 0),
+        Operation::Compare(_) => pair_of(0, 0),
+        Operation::Set(_) => pair_of(0, 0),
+        Operation::System(_) => pair_of(0, 0),
+        Operation::Unknown { sub_grp, selector } => pair_of(sub_grp as u32, selector as u32),
+    }
+}
+
+fn asking(number: u32, a: u32, b: u32) -> Request
+    ensures { λ r. ⌜ r ≡ request number a b 0 ⌝ }
+{
+    Request {
+        op: number,
+        first: a,
+        second: b,
+        code: 0,
+    }
+}
+
+fn system_request(operation: Operation, a: u32, b: u32) -> Request
+    ensures { λ r. ⌜ r ≡ request (numberOf operation) a b (unknownOf operation .value) ⌝ }
+{
+    let number = operation_number(operation);
+    let unknown = unknown_of(operation);
+    Request {
+        op: number,
+        first: a,
+        second: b,
+        code: unknown.value,
+    }
+}
+
+pub fn request_of(asked: NavRequest) -> Request
+    ensures { λ r. ⌜ r ≡ requestOf asked ⌝ }
+{
+    match asked {
+        NavRequest::JumpObject(object) => asking(4, object, 0),
+        NavRequest::JumpTitle(title) => asking(5, title, 0),
+        NavRequest::CallObject(object) => asking(6, object, 0),
+        NavRequest::CallTitle(title) => asking(7, title, 0),
+        NavRequest::Resume => asking(8, 0, 0),
+        NavRequest::PlayPlayList(playlist) => asking(9, playlist, 0),
+        NavRequest::PlayPlayListAtPlayItem(playlist, item) => asking(10, playlist, item),
+        NavRequest::PlayPlayListAtMark(playlist, mark) => asking(11, playlist, mark),
+        NavRequest::TerminatePlayList => asking(12, 0, 0),
+        NavRequest::LinkPlayItem(item) => asking(13, item, 0),
+        NavRequest::LinkMark(mark) => asking(14, mark, 0),
+        NavRequest::SetSystem {
+            op,
+            operand1,
+            operand2,
+        } => { system_request(op, operand1, operand2) }
+    }
+}
+
+// Answers.
+
+// What one command, or a run of commands, answers.
+pub fn step_numbers(step: Step) -> [u32; 5]
+    ensures { λ r. ⌜ r ≡ stepNumbers step ⌝ }
+{
+    match step {
+        Step::Continue => [0, 0, 0, 0, 0],
+        Step::Skipped => [1, 0, 0, 0, 0],
+        Step::Halted => [2, 0, 0, 0, 0],
+        Step::Branch(asked) => {
+            let q = request_of(asked);
+            [3, q.op, q.first, q.second, q.code]
+        }
+    }
+}
+
+// An outcome with one number at most.
+fn bad_numbers(number: u32, what: u32) -> [u32; 6]
+    ensures { λ r. ⌜ r ≡ bad number what ⌝ }
+{
+    [number, what, 0, 0, 0, 0]
+}
+
+fn request_numbers(asked: NavRequest) -> [u32; 6]
+    ensures { λ r. ⌜ r ≡ requesting (requestOf asked) ⌝ }
+{
+    let q = request_of(asked);
+    [2, q.op, q.first, q.second, q.code, 0]
+}
+
+fn option_pair(option: Option32) -> Pair
+    ensures { λ r. ⌜ r ≡ optionOf option ⌝ }
+{
+    match option {
+        Option32::None => pair_of(0, 0),
+        Option32::Some(number) => pair_of(1, number),
+    }
+}
+
+fn play_numbers(p: PlayRequest) -> [u32; 6]
+    ensures { λ r. ⌜ r ≡ playing (p .playlist) (optionOf (p .«play_item»)) (optionOf (p .mark)) ⌝ }
+{
+    let item = p.play_item;
+    let mark = p.mark;
+    let a = option_pair(item);
+    let b = option_pair(mark);
+    [1, p.playlist, a.kind, a.value, b.kind, b.value]
+}
+
+// The driver's outcome.
+pub fn drive_numbers(outcome: DriveOutcome) -> [u32; 6]
+    ensures { λ r. ⌜ r ≡ driveNumbers outcome ⌝ }
+{
+    match outcome {
+        DriveOutcome::Finished => bad_numbers(0, 0),
+        DriveOutcome::Play(p) => play_numbers(p),
+        DriveOutcome::Request(asked) => request_numbers(asked),
+        DriveOutcome::BadTitle(title) => bad_numbers(3, title),
+        DriveOutcome::BadObject(object) => bad_numbers(4, object),
+        DriveOutcome::BudgetExhausted => bad_numbers(5, 0),
+        DriveOutcome::ObjectStackFull => bad_numbers(6, 0),
+        DriveOutcome::TitleStackFull => bad_numbers(7, 0),
+    }
+}
+
+// The runner's outcome, in the same numbering.
+pub fn run_numbers(outcome: RunOutcome) -> [u32; 6]
+    ensures { λ r. ⌜ r ≡ runNumbers outcome ⌝ }
+{
+    match outcome {
+        RunOutcome::Finished => bad_numbers(0, 0),
+        RunOutcome::Request(asked) => request_numbers(asked),
+        RunOutcome::BadObject(object) => bad_numbers(4, object),
+        RunOutcome::BudgetExhausted => bad_numbers(5, 0),
+        RunOutcome::ObjectStackFull => bad_numbers(6, 0),
+    }
+}
+
+pub fn check_numbers(found: DiscCheck) -> [u32; 3]
+    ensures { λ r. ⌜ r ≡ checkNumbers found ⌝ }
+{
+    match found {
+        DiscCheck::Passed => [0, 0, 0],
+        DiscCheck::Offends { object, command } => [1, object, command],
+        DiscCheck::Refused(why) => [2, refusal_number(why), 0],
+    }
+}
+
+// Sessions and budgets.
+
+pub fn session_numbers(s: Session) -> [u32; 6]
+    ensures { λ r. ⌜ r ≡ sessionNumbers s ⌝ }
+{
+    let pending = flag_number(s.pending);
+    [s.entry, s.object, s.pc, s.odepth, s.tdepth, pending]
+}
+
+// Any number but 0 is pending.
+pub fn session_of(numbers: &[u32]) -> Session
+    ensures { λ r. ⌜ r ≡ sessionOf (now (numbers .entry)) ⌝ }
+{
+    let pending = number_at(numbers, 5);
+    Session {
+        entry: number_at(numbers, 0),
+        object: number_at(numbers, 1),
+        pc: number_at(numbers, 2),
+        odepth: number_at(numbers, 3),
+        tdepth: number_at(numbers, 4),
+        pending: pending != 0,
+    }
+}
+
+pub fn budget_numbers(b: Budgets) -> [u32; 3]
+    ensures { λ r. ⌜ r ≡ budgetNumbers b ⌝ }
+{
+    [b.steps, b.objects, b.titles]
+}
+
+pub fn budgets_of(numbers: &[u32]) -> Budgets
+    ensures { λ r. ⌜ r ≡ budgetsOf (now (numbers .entry)) ⌝ }
+{
+    Budgets {
+        steps: number_at(numbers, 0),
+        objects: number_at(numbers, 1),
+        titles: number_at(numbers, 2),
+    }
+}
+
+// Commands.
+
+fn group_pair(group: CommandGroup) -> Pair
+    ensures { λ r. ⌜ r ≡ groupPair group ⌝ }
+{
+    match group {
+        CommandGroup::Branch => pair_of(0, 0),
+        CommandGroup::Compare => pair_of(1, 0),
+        CommandGroup::Set => pair_of(2, 0),
+        CommandGroup::Reserved(bits) => pair_of(3, bits as u32),
+    }
+}
+
+fn bank_kind(bank: RegisterBank) -> u32
+    ensures { λ r. ⌜ r ≡ bankKind bank ⌝ }
+{
+    match bank {
+        RegisterBank::Gpr => 2,
+        RegisterBank::Psr => 3,
+        RegisterBank::PsrSecondary => 4,
+    }
+}
+
+fn operand_pair(operand: Operand) -> Pair
+    ensures { λ r. ⌜ r ≡ operandPair operand ⌝ }
+{
+    match operand {
+        Operand::Absent => pair_of(0, 0),
+        Operand::Immediate(value) => pair_of(1, value),
+        Operand::Register { bank, index } => pair_of(bank_kind(bank), index as u32),
+    }
+}
+
+pub fn command_numbers(command: DecodedCommand) -> [u32; 13]
+    ensures { λ r. ⌜ r ≡ commandNumbers command ⌝ }
+{
+    let group = command.group;
+    let operation = command.operation;
+    let operand1 = command.operand1;
+    let operand2 = command.operand2;
+    let g = group_pair(group);
+    let number = operation_number(operation);
+    let unknown = unknown_of(operation);
+    let a = operand_pair(operand1);
+    let b = operand_pair(operand2);
+    [
+        command.operand_count as u32,
+        g.kind,
+        g.value,
+        command.sub_group as u32,
+        flag_number(command.imm_op1),
+        flag_number(command.imm_op2),
+        number,
+        unknown.kind,
+        unknown.value,
+        a.kind,
+        a.value,
+        b.kind,
+        b.value,
+    ]
+}
+
+// The sheet, by its four parts.
+const BRANCHES: [BranchOp; 14] = [
+    BranchOp::Nop,
+    BranchOp::GoTo,
+    BranchOp::Break,
+    BranchOp::JumpObject,
+    BranchOp::JumpTitle,
+    BranchOp::CallObject,
+    BranchOp::CallTitle,
+    BranchOp::Resume,
+    BranchOp::PlayPL,
+    BranchOp::PlayPLatPlayItem,
+    BranchOp::PlayPLatMark,
+    BranchOp::TerminatePL,
+    BranchOp::LinkPI,
+    BranchOp::LinkMK,
+];
+
+const COMPARES: [CompareOp; 7] = [
+    CompareOp::Bc,
+    CompareOp::Eq,
+    CompareOp::Ne,
+    CompareOp::Ge,
+    CompareOp::Gt,
+    CompareOp::Le,
+    CompareOp::Lt,
+];
+
+const SETS: [SetOp; 15] = [
+    SetOp::Move,
+    SetOp::Swap,
+    SetOp::Add,
+    SetOp::Sub,
+    SetOp::Mul,
+    SetOp::Div,
+    SetOp::Mod,
+    SetOp::Rnd,
+    SetOp::And,
+    SetOp::Or,
+    SetOp::Xor,
+    SetOp::BitSet,
+    SetOp::BitClear,
+    SetOp::ShiftLeft,
+    SetOp::ShiftRight,
+];
+
+const SYSTEMS: [SystemOp; 11] = [
+    SystemOp::SetStream,
+    SystemOp::SetNvTimer,
+    SystemOp::SetButtonPage,
+    SystemOp::EnableButton,
+    SystemOp::DisableButton,
+    SystemOp::SetSecondaryStream,
+    SystemOp::PopUpOff,
+    SystemOp::StillOn,
+    SystemOp::StillOff,
+    SystemOp::SetOutputMode,
+    SystemOp::SetStreamSS,
+];
+
+fn low_byte(number: u32) -> u8
+    ensures { λ r. ⌜ r ≡ number % 256 ⌝ }
+{
+    (number % 256) as u8
+}
+
+fn low_half(number: u32) -> u16
+    ensures { λ r. ⌜ r ≡ number % 65536 ⌝ }
+{
+    (number % 65536) as u16
+}
+
+fn group_named(kind: u32, bits: u32) -> CommandGroup
+    ensures { λ r. ⌜ r ≡ groupNamed kind bits ⌝ }
+{
+    match kind {
+        0 => CommandGroup::Branch,
+        1 => CommandGroup::Compare,
+        2 => CommandGroup::Set,
+        _ => CommandGroup::Reserved(low_byte(bits)),
+    }
+}
+
+fn register(bank: RegisterBank, number: u32) -> Operand
+    ensures { λ r. ⌜ r ≡ Operand.Register bank (number % 65536) ⌝ }
+{
+    let index = low_half(number);
+    Operand::Register { bank, index }
+}
+
+fn operand_named(kind: u32, value: u32) -> Operand
+    ensures { λ r. ⌜ r ≡ operandNamed kind value ⌝ }
+{
+    match kind {
+        0 => Operand::Absent,
+        1 => Operand::Immediate(value),
+        2 => register(RegisterBank::Gpr, value),
+        3 => register(RegisterBank::Psr, value),
+        4 => register(RegisterBank::PsrSecondary, value),
+        _ => Operand::Absent,
+    }
+}
+
+// An operation by its place on the sheet; what has no place there is the other.
+fn sheet_named(number: u32, other: Operation) -> Operation
+    ensures { λ r. ⌜ r ≡ sheetNamed number other ⌝ }
+{
+    let at = number as usize;
+    if at == 0 {
+        return other;
+    }
+    if at <= 14 {
+        let op = BRANCHES[at - 1];
+        return Operation::Branch(op);
+    }
+    if at <= 21 {
+        let op = COMPARES[at - 15];
+        return Operation::Compare(op);
+    }
+    if at <= 36 {
+        let op = SETS[at - 22];
+        return Operation::Set(op);
+    }
+    if at <= 47 {
+        let op = SYSTEMS[at - 37];
+        return Operation::System(op);
+    }
+    other
+}
+
+fn operation_named(number: u32, sub: u32, code: u32) -> Operation
+    ensures { λ r. ⌜ r ≡ operationNamed number sub code ⌝ }
+{
+    let sub_grp = low_byte(sub);
+    let selector = low_byte(code);
+    sheet_named(number, Operation::Unknown { sub_grp, selector })
+}
+
+// The command that numbers name, each cut to its field's width.
+pub fn command_named(numbers: &[u32]) -> DecodedCommand
+    ensures { λ r. ⌜ r ≡ commandNamed (now (numbers .entry)) ⌝ }
+{
+    let group = group_named(number_at(numbers, 1), number_at(numbers, 2));
+    let operation = operation_named(
+        number_at(numbers, 6),
+        number_at(numbers, 7),
+        number_at(numbers, 8),
+    );
+    let operand1 = operand_named(number_at(numbers, 9), number_at(numbers, 10));
+    let operand2 = operand_named(number_at(numbers, 11), number_at(numbers, 12));
+    DecodedCommand {
+        operand_count: low_byte(number_at(numbers, 0)),
+        group,
+        sub_group: low_byte(number_at(numbers, 3)),
+        imm_op1: number_at(numbers, 4) != 0,
+        imm_op2: number_at(numbers, 5) != 0,
+        operation,
+        operand1,
+        operand2,
+    }
+}
+
+fn same(a: &[u32; 13], b: &[u32]) -> bool
+    ensures { λ r. ⌜ r ≡ all (sameAt (now (a .entry)) (now (b .entry))) 13 ⌝ }
+{
+    let mut k = 0;
+    while k < 13 {
+        if number_at(a, k) == number_at(b, k) {
+            k += 1;
+        } else {
+            return false;
+        }
+    }
+    true
+}
+
+// Whether numbers are those of the command that they name.
+pub fn is_command(numbers: &[u32]) -> bool
+    ensures { λ r. ⌜ r ≡ isCommand (now (numbers .entry)) ⌝ }
+{
+    let made = command_numbers(command_named(numbers));
+    same(&made, numbers)
+}
+
+// A command's numbers name it and no other, and what numbers name has those numbers, if they are a command's.
+pub fn numbers_name_commands()
+    ensures { λ _. ⌜ NumbersNameCommands ⌝ }
+{}
