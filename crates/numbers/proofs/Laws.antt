@@ -189,7 +189,7 @@ command-named c t =
     let e = command-back c t in
     record { back = e; are = all-made (sameAt (commandNumbers (commandNamed (commandNumbers c))) (commandNumbers c)) 13 (λ k h. eq-eqb _ _ (ap (λ (d : DecodedCommand). getD (commandNumbers d) k 0) e)) }
 
-numbers-thirteen : (c : DecodedCommand) → length (commandNumbers c) ≡ 13
+pub numbers-thirteen : (c : DecodedCommand) → length (commandNumbers c) ≡ 13
 unfolding commandNumbers
 numbers-thirteen c = refl
 

@@ -1,0 +1,11 @@
+use mathlib.Core.Path.{refl}
+use Rattle.mescjadro.specs.Rules.{lengthsFit}
+use Rattle.mescjadro.proofs.drive.lengths_fit.Statement.{statement}
+use Rattle.mescjadro.proofs.drive.lengths_fit.Tie as tie
+
+returns : tie.Need-returns
+unfolding lengthsFit
+returns c = refl
+
+pub lengths-fit-spec : {M : Type 1} → statement M
+lengths-fit-spec = tie.close (tie.spec returns)

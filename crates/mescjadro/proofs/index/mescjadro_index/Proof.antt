@@ -1,0 +1,35 @@
+use mathlib.Core.Path.{ap, _∙_}
+use borrow.Author.Needs.{needs}
+use borrow.Author.Tests.{eq-eqb, ne-eqb}
+use Rattle.mescjadro.specs.Rules.{handed, indexCall}
+use Rattle.mescjadro.proofs.index.mescjadro_index.Statement.{statement}
+use Rattle.mescjadro.proofs.index.mescjadro_index.Tie as tie
+
+returns : tie.Need-returns
+unfolding indexCall
+returns c = rw (ne-eqb _ _ (c .before .if1 .taken), c .refused .ensures)
+
+returns-2 : tie.Need-returns-2
+unfolding indexCall
+returns-2 c = rw (eq-eqb _ _ (c .before .before .before .before .before .if1 .left), ← c .before .before .before .before .parse .ensures, c .before .before .parsed .given .1, c .refused2 .ensures)
+
+returns-3 : tie.Need-returns-3
+unfolding indexCall
+returns-3 c = rw (eq-eqb _ _ (c .before .before .before .before .before .before .before .before .before .before .before .if1 .left), ← c .before .before .before .before .before .before .before .before .before .before .parse .ensures, c .before .before .before .before .before .before .before .before .parsed2 .given .1) (ap (handed 0) (c .before .before .put .ensures ∙ c .before .before .before .before .before .index-numbers .ensures))
+
+pub mescjadro-index-spec : {M : Type 1} → statement M
+mescjadro-index-spec =
+    tie.close
+    (tie.spec
+    (λ c κs. search needs)
+    returns
+    (λ c κs. search needs)
+    (λ c. search needs)
+    (λ c κs. search needs)
+    (λ c. search needs)
+    (λ c κs. search needs)
+    (λ c. search needs)
+    (λ c κs. search needs)
+    returns-2
+    (λ c. search needs)
+    returns-3)

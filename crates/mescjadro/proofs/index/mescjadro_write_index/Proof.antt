@@ -1,0 +1,26 @@
+use mathlib.Core.Path.{ap}
+use borrow.Author.Needs.{needs}
+use borrow.Author.Tests.{eq-eqb, ne-eqb}
+use Rattle.mescjadro.specs.Rules.{measured, writeIndexCall}
+use Rattle.mescjadro.proofs.index.mescjadro_write_index.Statement.{statement}
+use Rattle.mescjadro.proofs.index.mescjadro_write_index.Tie as tie
+
+returns : tie.Need-returns
+unfolding writeIndexCall
+returns c = rw (ne-eqb _ _ (c .before .if1 .taken), c .refused .ensures)
+
+returns-2 : tie.Need-returns-2
+unfolding writeIndexCall
+returns-2 c = rw (eq-eqb _ _ (c .before .before .before .before .before .before .before .if1 .left), ← c .before .before .before .before .before .before .app-of .ensures, ← c .before .before .before .before .write .ensures) (ap (measured _) (c .hand-file .ensures))
+
+pub mescjadro-write-index-spec : {M : Type 1} → statement M
+mescjadro-write-index-spec =
+    tie.close
+    (tie.spec
+    (λ c κs. search needs)
+    returns
+    (λ c κs. search needs)
+    (λ c κs. search needs)
+    (λ c κs. search needs)
+    (λ c. search needs)
+    returns-2)

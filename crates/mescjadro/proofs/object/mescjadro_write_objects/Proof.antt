@@ -1,0 +1,13 @@
+use mathlib.Core.Path.{ap}
+use borrow.Author.Needs.{needs}
+use Rattle.mescjadro.specs.Rules.{measured, writeObjectsCall}
+use Rattle.mescjadro.proofs.object.mescjadro_write_objects.Statement.{statement}
+use Rattle.mescjadro.proofs.object.mescjadro_write_objects.Tie as tie
+
+returns : tie.Need-returns
+unfolding writeObjectsCall
+returns c = rw (← c .before .before .before .before .write .ensures) (ap (measured _) (c .hand-file .ensures))
+
+pub mescjadro-write-objects-spec : {M : Type 1} → statement M
+mescjadro-write-objects-spec =
+    tie.close (tie.spec (λ c κs. search needs) (λ c κs. search needs) (λ c. search needs) returns)

@@ -1,0 +1,52 @@
+// One command: decoded, encoded, listed.
+use super::hand;
+use error::Refusal;
+use nav_command::DecodedCommand;
+ghost use mathlib.Core.Path.{_≡_};
+ghost use Rattle.mescjadro.specs.Rules.{handed, size, measured, decodeCall, encodeCall, listCommandCall};
+
+// The thirteen numbers of twelve bytes.
+#[no_mangle]
+pub extern "C" fn mescjadro_decode(command: &[u8], result: &mut [u32]) -> u32
+    ensures { λ r. ⌜ handed r (now (result .exit)) ≡ decodeCall (now (command .entry)) (now (result .entry)) ⌝ }
+{
+    if result.len() != 13 {
+        return hand::refused(Refusal::BadBuffer);
+    }
+    if command.len() != 12 {
+        return hand::refused(Refusal::BadBuffer);
+    }
+    let bytes = hand::twelve(command);
+    let found = numbers::command_numbers(DecodedCommand::decode(&bytes));
+    hand::put(result, &found);
+    0
+}
+
+// The twelve bytes of thirteen numbers.
+#[no_mangle]
+pub extern "C" fn mescjadro_encode(command: &[u32], out: &mut [u8]) -> u32
+    ensures { λ r. ⌜ handed r (now (out .exit)) ≡ encodeCall (now (command .entry)) (now (out .entry)) ⌝ }
+{
+    if command.len() != 13 {
+        return hand::refused(Refusal::BadBuffer);
+    }
+    if numbers::is_command(command) {
+        let found = nav_encode::encode(numbers::command_named(command), out);
+        return numbers::verdict_number(found);
+    }
+    hand::refused(Refusal::NotEncodable)
+}
+
+// The text of twelve bytes.
+#[no_mangle]
+pub extern "C" fn mescjadro_list_command(command: &[u8], out: &mut [u8], count: &mut usize) -> u32
+    ensures { λ r. ⌜ measured (now (out .exit)) (size r (now (count .exit)))
+        ≡ listCommandCall (now (command .entry)) (now (out .entry)) (now (count .entry)) ⌝ }
+{
+    if command.len() != 12 {
+        return hand::refused(Refusal::BadBuffer);
+    }
+    let bytes = hand::twelve(command);
+    let listed = nav_list::list(DecodedCommand::decode(&bytes), out, 0);
+    hand::hand_text(listed, count)
+}
