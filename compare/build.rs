@@ -32,7 +32,20 @@ fn source(from: &Path, name: &str, length: usize, sum: u64) -> String {
     String::from_utf8(bytes).expect("the published text is UTF-8")
 }
 
+/// Links the archive that MESCJADRO_LIBRARY names.
+fn link() {
+    println!("cargo:rerun-if-env-changed=MESCJADRO_LIBRARY");
+    if env::var_os("CARGO_FEATURE_LIBRARY").is_none() {
+        return;
+    }
+    let archive = PathBuf::from(env::var_os("MESCJADRO_LIBRARY").expect("MESCJADRO_LIBRARY names libmescjadro.a"));
+    println!("cargo:rerun-if-changed={}", archive.display());
+    println!("cargo:rustc-link-search=native={}", archive.parent().unwrap().display());
+    println!("cargo:rustc-link-lib=static=mescjadro");
+}
+
 fn main() {
+    link();
     let here = PathBuf::from(env::var_os("CARGO_MANIFEST_DIR").unwrap());
     let out = PathBuf::from(env::var_os("OUT_DIR").unwrap());
     println!("cargo:rerun-if-env-changed=MESCJADRO_RUST");

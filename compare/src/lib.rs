@@ -22,3 +22,8 @@ pub mod mpls {
 }
 
 pub mod chance;
+pub mod generate;
+#[cfg(feature = "library")]
+pub mod library;
+pub mod numbers;
+pub mod paper;

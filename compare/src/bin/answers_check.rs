@@ -26,7 +26,12 @@ fn index_of(disc: &Disc) -> IndexBdmv {
     let entry = |object: &IndexObjectType| IndexEntry { object: object.clone() };
     IndexBdmv {
         version: *b"0200",
-        app_info: AppInfoBdmv { initial_output_mode_preference: 0, content_exist_flag: 0, video_format: 0, frame_rate: 0 },
+        app_info: AppInfoBdmv {
+            initial_output_mode_preference: 0,
+            content_exist_flag: 0,
+            video_format: 0,
+            frame_rate: 0,
+        },
         first_playback_title: entry(&hdmv(0)),
         menu_title: entry(&hdmv(0)),
         titles: disc.titles.iter().map(entry).collect(),
@@ -119,11 +124,15 @@ fn known() -> Vec<Disc> {
 
 fn random(chance: &mut Chance) -> Disc {
     let count = 1 + chance.below(4);
-    let titles = (0..chance.below(4)).map(|_| if chance.once_in(4) { bdj() } else { hdmv(chance.below(count + 1) as u16) }).collect();
+    let titles = (0..chance.below(4))
+        .map(|_| if chance.once_in(4) { bdj() } else { hdmv(chance.below(count + 1) as u16) })
+        .collect();
     let command = |chance: &mut Chance| match chance.below(6) {
         0 => immediate(chance.below(5) as u32, chance.one(&[0, 1, 2, 3, 4, 65_536, 65_537, 65_538])),
         1 => immediate(chance.one(&[0, 2]), 0),
-        2 if chance.once_in(4) => by_register(chance.below(5) as u32, chance.one(&[0, 4095, 0x8000_0004, 0x8000_0080, 0xC000_0FFF])),
+        2 if chance.once_in(4) => {
+            by_register(chance.below(5) as u32, chance.one(&[0, 4095, 0x8000_0004, 0x8000_0080, 0xC000_0FFF]))
+        }
         3 => [chance.word(), chance.word(), chance.word()],
         _ => chance.one(&[[0x5040_0001, 5, 16], [0x2280_0000, 1, 0], [0, 0, 0], [0x0104_0000, 0, 0]]),
     };

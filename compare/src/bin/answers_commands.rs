@@ -6,18 +6,9 @@
 //! value (4 bytes, big-endian); the listing's length and its bytes.
 use mescjadro_compare::bdmv::nav_command::{CommandGroup, DecodedCommand, Operand, Operation, RegisterBank};
 use mescjadro_compare::chance::Chance;
+use mescjadro_compare::numbers::SHEET;
 use std::io::Write;
 
-/// The named operations in the order of the code sheet.
-const SHEET: [Operation; 47] = {
-    use Operation::*;
-    [
-        Nop, GoTo, Break, JumpObject, JumpTitle, CallObject, CallTitle, Resume, PlayPL, PlayPLatPlayItem, PlayPLatMark,
-        TerminatePL, LinkPI, LinkMK, Bc, Eq, Ne, Ge, Gt, Le, Lt, Move, Swap, Add, Sub, Mul, Div, Mod, Rnd, And, Or, Xor, BitSet,
-        BitClear, ShiftLeft, ShiftRight, SetStream, SetNvTimer, SetButtonPage, EnableButton, DisableButton,
-        SetSecondaryStream, PopUpOff, StillOn, StillOff, SetOutputMode, SetStreamSS,
-    ]
-};
 const INDICES: [u32; 10] = [0, 4, 48, 61, 127, 128, 255, 256, 999, 4095];
 const IMMEDIATES: [u32; 6] = [0, 9, 10, 0xABCDEF, 0x8000_0000, 0xFFFF_FFFF];
 const BANKS: [u32; 4] = [0, 0x4000_0000, 0x8000_0000, 0xC000_0000];
@@ -88,7 +79,7 @@ fn commands() -> Vec<[u32; 3]> {
             for code in 0..17u32 {
                 let count = (group + sub + code) % 8;
                 let flags = (sub + 3 * code) % 4;
-                let place = [code % 16 << 16, code << 8, code, code][group as usize];
+                let place = [(code % 16) << 16, code << 8, code, code][group as usize];
                 let head = count << 29 | group << 27 | sub << 24 | flags << 22 | place;
                 all.push([head, word(flags >> 1), word(flags & 1)]);
             }

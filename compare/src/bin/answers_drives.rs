@@ -152,7 +152,12 @@ fn entry(c: &mut Chance, objects: u64) -> IndexEntry {
     hdmv(object(c, objects) as u16)
 }
 
-fn disc_of(first_playback_title: IndexEntry, menu_title: IndexEntry, titles: Vec<IndexEntry>, objects: Vec<MovieObject>) -> Disc {
+fn disc_of(
+    first_playback_title: IndexEntry,
+    menu_title: IndexEntry,
+    titles: Vec<IndexEntry>,
+    objects: Vec<MovieObject>,
+) -> Disc {
     let app_info =
         AppInfoBdmv { initial_output_mode_preference: 0, content_exist_flag: 0, video_format: 6, frame_rate: 1 };
     let index = IndexBdmv { version: *b"0200", app_info, first_playback_title, menu_title, titles };

@@ -1,0 +1,131 @@
+//! Mescjadro's library: what its calls answer. Each wrapper also sees that a refusal left the outputs as they were and
+//! that nothing was written beyond an answer, and panics otherwise.
+pub mod lent;
+pub mod raw;
+
+use lent::Lent;
+
+/// A refusal's number, or the answer.
+pub type Answer<T> = Result<T, u32>;
+
+/// A call that writes `N` numbers into room of `length` numbers, where `N` is the only right length.
+fn numbers<const N: usize>(length: usize, call: impl FnOnce(*mut u32, usize) -> u32) -> Answer<[u32; N]> {
+    let mut result = Lent::<u32>::room(length);
+    match call(result.pointer(), length) {
+        0 => Ok(result.held().try_into().expect("the length was right")),
+        refusal => {
+            assert!(result.untouched_from(0), "refused with {refusal}, and wrote its result");
+            Err(refusal)
+        }
+    }
+}
+
+/// A call that writes bytes into room and says how many.
+fn bytes(room: usize, call: impl FnOnce(*mut u8, usize, *mut usize) -> u32) -> Answer<Vec<u8>> {
+    let mut out = Lent::<u8>::room(room);
+    let mut length = Lent::<usize>::room(1);
+    match call(out.pointer(), room, length.pointer()) {
+        0 => {
+            let written = length.held()[0];
+            assert!(out.untouched_from(written), "wrote beyond the {written} bytes of its answer");
+            Ok(out.held()[..written].to_vec())
+        }
+        refusal => {
+            assert!(out.untouched_from(0), "refused with {refusal}, and wrote its output");
+            assert!(length.untouched_from(0), "refused with {refusal}, and wrote its length");
+            Err(refusal)
+        }
+    }
+}
+
+pub fn decode(command: &[u8], room: usize) -> Answer<[u32; 13]> {
+    numbers(room, |at, len| unsafe { raw::mescjadro_decode(command.as_ptr(), command.len(), at, len) })
+}
+
+pub fn encode(command: &[u32], room: usize) -> Answer<Vec<u8>> {
+    bytes(room, |out, len, length| unsafe {
+        let refusal = raw::mescjadro_encode(command.as_ptr(), command.len(), out, len);
+        if refusal == 0 {
+            *length = 12;
+        }
+        refusal
+    })
+}
+
+pub fn list_command(command: &[u8], room: usize) -> Answer<Vec<u8>> {
+    bytes(room, |out, len, length| unsafe {
+        raw::mescjadro_list_command(command.as_ptr(), command.len(), out, len, length)
+    })
+}
+
+pub fn objects(file: &[u8], room: usize) -> Answer<[u32; 2]> {
+    numbers(room, |at, len| unsafe { raw::mescjadro_objects(file.as_ptr(), file.len(), at, len) })
+}
+
+pub fn object(file: &[u8], object: u32, room: usize) -> Answer<[u32; 5]> {
+    numbers(room, |at, len| unsafe { raw::mescjadro_object(file.as_ptr(), file.len(), object, at, len) })
+}
+
+pub fn list_object(file: &[u8], object: u32, room: usize) -> Answer<Vec<u8>> {
+    bytes(room, |out, len, length| unsafe {
+        raw::mescjadro_list_object(file.as_ptr(), file.len(), object, out, len, length)
+    })
+}
+
+/// What the writer of object files is handed.
+#[derive(Clone, Debug)]
+pub struct Objects {
+    pub version: u32,
+    pub flags: Vec<u8>,
+    pub counts: Vec<u32>,
+    pub commands: Vec<u8>,
+}
+
+pub fn write_objects(from: &Objects, room: usize) -> Answer<Vec<u8>> {
+    let Objects { version, flags, counts, commands } = from;
+    let (fp, fl, np, nl) = (flags.as_ptr(), flags.len(), counts.as_ptr(), counts.len());
+    let (cp, cl) = (commands.as_ptr(), commands.len());
+    bytes(room, |out, len, length| unsafe {
+        raw::mescjadro_write_objects(*version, fp, fl, np, nl, cp, cl, out, len, length)
+    })
+}
+
+pub fn index(file: &[u8], room: usize) -> Answer<[u32; 6]> {
+    numbers(room, |at, len| unsafe { raw::mescjadro_index(file.as_ptr(), file.len(), at, len) })
+}
+
+pub fn entry(file: &[u8], entry: u32, room: usize) -> Answer<[u32; 8]> {
+    numbers(room, |at, len| unsafe { raw::mescjadro_entry(file.as_ptr(), file.len(), entry, at, len) })
+}
+
+pub fn resolve(file: &[u8], entry: u32, room: usize) -> Answer<[u32; 2]> {
+    numbers(room, |at, len| unsafe { raw::mescjadro_resolve(file.as_ptr(), file.len(), entry, at, len) })
+}
+
+/// What the writer of index files is handed.
+#[derive(Clone, Debug)]
+pub struct Index {
+    pub version: u32,
+    pub app: Vec<u8>,
+    pub kinds: Vec<u8>,
+    pub playbacks: Vec<u8>,
+    pub objects: Vec<u16>,
+    pub names: Vec<u8>,
+}
+
+pub fn write_index(from: &Index, room: usize) -> Answer<Vec<u8>> {
+    let Index { version, app, kinds, playbacks, objects, names } = from;
+    let (ap, al, kp, kl) = (app.as_ptr(), app.len(), kinds.as_ptr(), kinds.len());
+    let (pp, pl, op, ol) = (playbacks.as_ptr(), playbacks.len(), objects.as_ptr(), objects.len());
+    let (np, nl) = (names.as_ptr(), names.len());
+    bytes(room, |out, len, length| unsafe {
+        raw::mescjadro_write_index(*version, ap, al, kp, kl, pp, pl, op, ol, np, nl, out, len, length)
+    })
+}
+
+pub fn disc_check(index: &[u8], file: &[u8], room: usize) -> Answer<[u32; 3]> {
+    let (ip, il, fp, fl) = (index.as_ptr(), index.len(), file.as_ptr(), file.len());
+    numbers(room, |at, len| unsafe { raw::mescjadro_disc_check(ip, il, fp, fl, at, len) })
+}
+
+pub mod machine;
