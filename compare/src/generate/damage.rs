@@ -23,17 +23,19 @@ fn one(c: &mut Chance, file: &mut Vec<u8>) {
         return file.push(c.word() as u8);
     }
     let at = place(c, length);
-    match c.below(9) {
+    match c.below(10) {
         0 | 1 => file[at] ^= 1 << c.below(8),
         2 => file[at] = c.one(&BYTES),
         3 => file.truncate(at),
         4 => file.truncate(length - 1 - c.below(4.min(length as u64)) as usize),
         5 => write(file, at, &c.one(&WORDS).to_be_bytes()),
-        6 => {
-            let near = (length as u32).wrapping_add(c.below(9) as u32).wrapping_sub(4 + c.one(&[0, 4, 44, 82]));
-            write(file, at, &near.to_be_bytes());
+        6 | 7 => {
+            // A length that ends near the end of the file, in one of the fields that state one.
+            let end = length as u32 + c.below(5) as u32;
+            let (at, from) = c.one(&[(40, 44), (40, 44), (8, 0), (78, 82), (at, 0)]);
+            write(file, at, &end.wrapping_sub(2 + from).to_be_bytes());
         }
-        7 => file.extend((0..1 + c.below(16)).map(|_| c.word() as u8)),
+        8 => file.extend((0..1 + c.below(16)).map(|_| c.word() as u8)),
         _ => {
             file.remove(at);
         }

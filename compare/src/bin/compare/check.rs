@@ -105,16 +105,28 @@ fn smallest<C: Case>(case: &C) -> Option<(C, Difference)> {
 const SHOWN: u64 = 20;
 
 pub struct Tally {
-    pub seed: u64,
+    seed: u64,
     /// The comparison ends at the first difference.
-    pub first_only: bool,
-    pub part: &'static str,
+    first_only: bool,
+    part: &'static str,
+    /// The cases before this part's.
+    before: u64,
     pub cases: u64,
     pub answers: u64,
-    pub differences: u64,
+    differences: u64,
 }
 
 impl Tally {
+    pub fn new(seed: u64, first_only: bool) -> Self {
+        Tally { seed, first_only, part: "", before: 0, cases: 0, answers: 0, differences: 0 }
+    }
+
+    /// Begins a part of the comparison.
+    pub fn begin(&mut self, part: &'static str) {
+        self.part = part;
+        self.before = self.cases;
+    }
+
     pub fn hold<C: Case>(&mut self, case: &C) {
         self.cases += 1;
         match compared(case) {
@@ -134,7 +146,8 @@ impl Tally {
     fn report<C: Case>(&self, case: &C, first: &Difference) {
         let small = smallest(case);
         let (shown, difference) = small.as_ref().map_or((case, first), |(case, difference)| (case, difference));
-        println!("difference {} in {}, case {}, seed {}", self.differences, self.part, self.cases, self.seed);
+        let Tally { part, seed, differences, .. } = self;
+        println!("difference {differences} in {part}, case {}, seed {seed}", self.cases - self.before);
         println!("  {}", difference.what);
         println!("  the Rust:  {}", difference.theirs);
         println!("  Mescjadro: {}", difference.ours);

@@ -148,7 +148,7 @@ impl Case for WrongLengths {
 }
 
 /// Every first word's fields with every code, and each with a few operands.
-fn all_codes(tally: &mut Tally) {
+pub fn all_codes(tally: &mut Tally) {
     let operands = [[0x8000_0004, 0xc000_0080], [7, 0xffff_ffff], [0xc000_0030, 0x4000_0fff]];
     for high in 0..1024u32 {
         for code in 0..256 {
@@ -161,7 +161,6 @@ fn all_codes(tally: &mut Tally) {
 
 pub fn compare(tally: &mut Tally, c: &mut Chance, count: u64) {
     tally.hold(&WrongLengths);
-    all_codes(tally);
     for _ in 0..count {
         tally.hold(&Command(bytes(any(c))));
         tally.hold(&fields(c));

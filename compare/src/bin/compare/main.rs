@@ -21,7 +21,7 @@ const COUNT: u64 = 50_000;
 
 fn part(tally: &mut Tally, name: &'static str, compare: impl FnOnce(&mut Tally)) {
     let (began, cases, answers) = (Instant::now(), tally.cases, tally.answers);
-    tally.part = name;
+    tally.begin(name);
     compare(tally);
     let (cases, answers) = (tally.cases - cases, tally.answers - answers);
     println!("{name}: {cases} cases, {answers} answers, {:.1} s", began.elapsed().as_secs_f32());
@@ -35,7 +35,7 @@ fn main() {
     let (seed, count) = (number(0, SEED), number(1, COUNT));
     // What a panic says stands in the difference.
     std::panic::set_hook(Box::new(|_| {}));
-    let mut tally = Tally { seed, first_only, part: "", cases: 0, answers: 0, differences: 0 };
+    let mut tally = Tally::new(seed, first_only);
     let mut c = Chance(seed);
     part(&mut tally, "commands", |tally| commands::compare(tally, &mut c, count));
     part(&mut tally, "files", |tally| files::compare(tally, &mut c, count));

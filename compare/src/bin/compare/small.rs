@@ -1,7 +1,8 @@
-//! Short inputs, all of them: discs of two objects with two commands, every beginning of small files, every name of
-//! boundary bytes.
+//! Short inputs, all of them: every code of a command, every beginning of small files, every name of boundary bytes,
+//! every disc of two objects with two commands out of thirteen.
 use crate::check::Tally;
 use crate::checks::Check;
+use crate::commands::all_codes;
 use crate::drives::{Act, Drives};
 use crate::files::{IndexFile, ObjectFile};
 use mescjadro_compare::chance::Chance;
@@ -119,6 +120,7 @@ fn all_names(tally: &mut Tally) {
 }
 
 pub fn compare(tally: &mut Tally, c: &mut Chance) {
+    all_codes(tally);
     all_beginnings(tally, c);
     all_lengths(tally);
     all_names(tally);

@@ -1,0 +1,108 @@
+//! Reading and writing of the two files.
+use crate::table::Table;
+use mescjadro_compare::bdmv::index_bdmv::IndexBdmv;
+use mescjadro_compare::bdmv::movie_object::MovieObjects;
+use mescjadro_compare::generate::commands::assign;
+use mescjadro_compare::generate::discs::{self, Disc, Entry, bdj, hdmv};
+use mescjadro_compare::library::raw;
+use std::hint::black_box;
+
+pub const MIB: usize = 1 << 20;
+
+/// A disc whose object file is about so long, with so many commands an object.
+pub fn disc_of_length(length: usize, commands: usize) -> Disc {
+    let objects = ((length - 78) / (4 + 12 * commands)).min(65_535);
+    let commands = (0..commands).map(|n| assign(n as u32 % 4096, n as u32)).collect::<Vec<_>>();
+    discs::of(vec![hdmv(0)], vec![commands; objects])
+}
+
+pub fn read_objects(file: &[u8]) {
+    let mut result = [0; 2];
+    let refusal = unsafe { raw::mescjadro_objects(file.as_ptr(), file.len(), result.as_mut_ptr(), result.len()) };
+    assert_eq!(black_box(refusal), 0);
+    black_box(result);
+}
+
+pub fn read_index(file: &[u8]) {
+    let mut result = [0; 6];
+    let refusal = unsafe { raw::mescjadro_index(file.as_ptr(), file.len(), result.as_mut_ptr(), result.len()) };
+    assert_eq!(black_box(refusal), 0);
+    black_box(result);
+}
+
+fn objects_row(table: &mut Table, what: &str, disc: &Disc, target: Option<f64>) {
+    let file = disc.object_file();
+    let what = format!("read an object file of {} bytes, {what}", file.len());
+    let theirs = || drop(black_box(MovieObjects::parse(black_box(&file)).unwrap()));
+    table.both(&what, 1, target, Box::new(theirs), Box::new(|| read_objects(black_box(&file))));
+}
+
+fn index_row(table: &mut Table, what: &str, entry: Entry, target: f64) {
+    let file = discs::of(vec![entry; 65_535], vec![]).index_file();
+    let theirs = || drop(black_box(IndexBdmv::parse(black_box(&file)).unwrap()));
+    table.both(what, 1, Some(target), Box::new(theirs), Box::new(|| read_index(black_box(&file))));
+}
+
+pub fn reading(table: &mut Table) {
+    objects_row(table, "100 commands an object", &disc_of_length(MIB, 100), Some(20.0));
+    objects_row(table, "100 commands an object", &disc_of_length(16 * MIB, 100), Some(20.0));
+    objects_row(table, "1 command an object", &disc_of_length(MIB, 1), Some(8.0));
+    objects_row(table, "21 commands an object, the most objects", &disc_of_length(16 * MIB, 21), Some(8.0));
+    index_row(table, "read an index of 65,535 titles, movie objects", hdmv(7), 4.0);
+    index_row(table, "read an index of 65,535 titles, BD-J", bdj(*b"00001"), 8.0);
+}
+
+pub fn writing(table: &mut Table) {
+    let mut disc = disc_of_length(MIB, 100);
+    disc.entries = vec![hdmv(7); 1000];
+    let (index, objects) = (disc.index_file(), disc.object_file());
+    let (read_index, read_objects) = (IndexBdmv::parse(&index).unwrap(), MovieObjects::parse(&objects).unwrap());
+    let version = u32::from_be_bytes(disc.version);
+    let flags: Vec<u8> = disc.objects.iter().flat_map(|object| object.flags).collect();
+    let counts: Vec<u32> = disc.objects.iter().map(|object| object.commands.len() as u32).collect();
+    let commands: Vec<u8> =
+        read_objects.movie_objects.iter().flat_map(|object| &object.commands).flat_map(|c| c.bytes).collect();
+    let kinds = vec![1u8; 1000];
+    let (playbacks, numbers, names) = (vec![0u8; 1000], vec![7u16; 1000], vec![0u8; 5000]);
+    let mut out = vec![0u8; objects.len()];
+    let theirs = || {
+        black_box(black_box(&read_index).encode());
+        black_box(black_box(&read_objects).encode());
+    };
+    let ours = || unsafe {
+        let mut length = 0;
+        let (o, ol) = (out.as_mut_ptr(), out.len());
+        let (f, n, c) = (&flags, &counts, &commands);
+        let refusal = raw::mescjadro_write_index(
+            version,
+            disc.app.as_ptr(),
+            4,
+            kinds.as_ptr(),
+            1000,
+            playbacks.as_ptr(),
+            1000,
+            numbers.as_ptr(),
+            1000,
+            names.as_ptr(),
+            5000,
+            o,
+            ol,
+            &mut length,
+        );
+        assert_eq!((refusal, length), (0, index.len()));
+        let refusal = raw::mescjadro_write_objects(
+            version,
+            f.as_ptr(),
+            f.len(),
+            n.as_ptr(),
+            n.len(),
+            c.as_ptr(),
+            c.len(),
+            o,
+            ol,
+            &mut length,
+        );
+        assert_eq!((refusal, length), (0, objects.len()));
+    };
+    table.both("write both files, 1 MiB and 998 titles", 1, Some(1.0), Box::new(theirs), Box::new(ours));
+}
