@@ -1,8 +1,11 @@
 //! Mescjadro's library: what its calls answer. Each wrapper also sees that a refusal left the outputs as they were and
 //! that nothing was written beyond an answer, and panics otherwise.
 pub mod lent;
+pub mod machine;
 pub mod raw;
 
+use crate::generate::commands::file_part;
+use crate::generate::discs::Disc;
 use lent::Lent;
 
 /// A refusal's number, or the answer.
@@ -21,10 +24,10 @@ fn numbers<const N: usize>(length: usize, call: impl FnOnce(*mut u32, usize) -> 
 }
 
 /// A call that writes bytes into room and says how many.
-fn bytes(room: usize, call: impl FnOnce(*mut u8, usize, *mut usize) -> u32) -> Answer<Vec<u8>> {
+fn bytes(room: usize, call: impl FnOnce(&mut [u8], &mut usize) -> u32) -> Answer<Vec<u8>> {
     let mut out = Lent::<u8>::room(room);
     let mut length = Lent::<usize>::room(1);
-    match call(out.pointer(), room, length.pointer()) {
+    match call(out.held_mut(), &mut length.held_mut()[0]) {
         0 => {
             let written = length.held()[0];
             assert!(out.untouched_from(written), "wrote beyond the {written} bytes of its answer");
@@ -43,8 +46,8 @@ pub fn decode(command: &[u8], room: usize) -> Answer<[u32; 13]> {
 }
 
 pub fn encode(command: &[u32], room: usize) -> Answer<Vec<u8>> {
-    bytes(room, |out, len, length| unsafe {
-        let refusal = raw::mescjadro_encode(command.as_ptr(), command.len(), out, len);
+    bytes(room, |out, length| unsafe {
+        let refusal = raw::mescjadro_encode(command.as_ptr(), command.len(), out.as_mut_ptr(), out.len());
         if refusal == 0 {
             *length = 12;
         }
@@ -53,8 +56,8 @@ pub fn encode(command: &[u32], room: usize) -> Answer<Vec<u8>> {
 }
 
 pub fn list_command(command: &[u8], room: usize) -> Answer<Vec<u8>> {
-    bytes(room, |out, len, length| unsafe {
-        raw::mescjadro_list_command(command.as_ptr(), command.len(), out, len, length)
+    bytes(room, |out, length| unsafe {
+        raw::mescjadro_list_command(command.as_ptr(), command.len(), out.as_mut_ptr(), out.len(), length)
     })
 }
 
@@ -67,8 +70,8 @@ pub fn object(file: &[u8], object: u32, room: usize) -> Answer<[u32; 5]> {
 }
 
 pub fn list_object(file: &[u8], object: u32, room: usize) -> Answer<Vec<u8>> {
-    bytes(room, |out, len, length| unsafe {
-        raw::mescjadro_list_object(file.as_ptr(), file.len(), object, out, len, length)
+    bytes(room, |out, length| unsafe {
+        raw::mescjadro_list_object(file.as_ptr(), file.len(), object, out.as_mut_ptr(), out.len(), length)
     })
 }
 
@@ -81,13 +84,27 @@ pub struct Objects {
     pub commands: Vec<u8>,
 }
 
+impl Objects {
+    pub fn of(disc: &Disc) -> Self {
+        Objects {
+            version: u32::from_be_bytes(disc.version),
+            flags: disc.objects.iter().flat_map(|object| object.flags).collect(),
+            counts: disc.objects.iter().map(|object| object.commands.len() as u32).collect(),
+            commands: disc.objects.iter().flat_map(|object| file_part(&object.commands)).collect(),
+        }
+    }
+
+    pub fn write(&self, out: &mut [u8], length: &mut usize) -> u32 {
+        let (o, len) = (out.as_mut_ptr(), out.len());
+        let Objects { version, flags, counts, commands } = self;
+        let (fp, fl, np, nl) = (flags.as_ptr(), flags.len(), counts.as_ptr(), counts.len());
+        let (cp, cl) = (commands.as_ptr(), commands.len());
+        unsafe { raw::mescjadro_write_objects(*version, fp, fl, np, nl, cp, cl, o, len, length) }
+    }
+}
+
 pub fn write_objects(from: &Objects, room: usize) -> Answer<Vec<u8>> {
-    let Objects { version, flags, counts, commands } = from;
-    let (fp, fl, np, nl) = (flags.as_ptr(), flags.len(), counts.as_ptr(), counts.len());
-    let (cp, cl) = (commands.as_ptr(), commands.len());
-    bytes(room, |out, len, length| unsafe {
-        raw::mescjadro_write_objects(*version, fp, fl, np, nl, cp, cl, out, len, length)
-    })
+    bytes(room, |out, length| from.write(out, length))
 }
 
 pub fn index(file: &[u8], room: usize) -> Answer<[u32; 6]> {
@@ -113,19 +130,33 @@ pub struct Index {
     pub names: Vec<u8>,
 }
 
+impl Index {
+    pub fn of(disc: &Disc) -> Self {
+        Index {
+            version: u32::from_be_bytes(disc.version),
+            app: disc.app.to_vec(),
+            kinds: disc.entries.iter().map(|entry| entry.kind).collect(),
+            playbacks: disc.entries.iter().map(|entry| entry.playback).collect(),
+            objects: disc.entries.iter().map(|entry| entry.object).collect(),
+            names: disc.entries.iter().flat_map(|entry| entry.name).collect(),
+        }
+    }
+
+    pub fn write(&self, out: &mut [u8], length: &mut usize) -> u32 {
+        let (o, len) = (out.as_mut_ptr(), out.len());
+        let Index { version, app, kinds, playbacks, objects, names } = self;
+        let (ap, al, kp, kl) = (app.as_ptr(), app.len(), kinds.as_ptr(), kinds.len());
+        let (pp, pl, op, ol) = (playbacks.as_ptr(), playbacks.len(), objects.as_ptr(), objects.len());
+        let (np, nl) = (names.as_ptr(), names.len());
+        unsafe { raw::mescjadro_write_index(*version, ap, al, kp, kl, pp, pl, op, ol, np, nl, o, len, length) }
+    }
+}
+
 pub fn write_index(from: &Index, room: usize) -> Answer<Vec<u8>> {
-    let Index { version, app, kinds, playbacks, objects, names } = from;
-    let (ap, al, kp, kl) = (app.as_ptr(), app.len(), kinds.as_ptr(), kinds.len());
-    let (pp, pl, op, ol) = (playbacks.as_ptr(), playbacks.len(), objects.as_ptr(), objects.len());
-    let (np, nl) = (names.as_ptr(), names.len());
-    bytes(room, |out, len, length| unsafe {
-        raw::mescjadro_write_index(*version, ap, al, kp, kl, pp, pl, op, ol, np, nl, out, len, length)
-    })
+    bytes(room, |out, length| from.write(out, length))
 }
 
 pub fn disc_check(index: &[u8], file: &[u8], room: usize) -> Answer<[u32; 3]> {
     let (ip, il, fp, fl) = (index.as_ptr(), index.len(), file.as_ptr(), file.len());
     numbers(room, |at, len| unsafe { raw::mescjadro_disc_check(ip, il, fp, fl, at, len) })
 }
-
-pub mod machine;

@@ -4,7 +4,7 @@ use mescjadro_compare::bdmv::index_bdmv::IndexBdmv;
 use mescjadro_compare::bdmv::movie_object::MovieObjects;
 use mescjadro_compare::generate::commands::assign;
 use mescjadro_compare::generate::discs::{self, Disc, Entry, bdj, hdmv};
-use mescjadro_compare::library::raw;
+use mescjadro_compare::library::{Index, Objects, raw};
 use std::hint::black_box;
 
 pub const MIB: usize = 1 << 20;
@@ -55,54 +55,21 @@ pub fn reading(table: &mut Table) {
 pub fn writing(table: &mut Table) {
     let mut disc = disc_of_length(MIB, 100);
     disc.entries = vec![hdmv(7); 1000];
-    let (index, objects) = (disc.index_file(), disc.object_file());
-    let (read_index, read_objects) = (IndexBdmv::parse(&index).unwrap(), MovieObjects::parse(&objects).unwrap());
-    let version = u32::from_be_bytes(disc.version);
-    let flags: Vec<u8> = disc.objects.iter().flat_map(|object| object.flags).collect();
-    let counts: Vec<u32> = disc.objects.iter().map(|object| object.commands.len() as u32).collect();
-    let commands: Vec<u8> =
-        read_objects.movie_objects.iter().flat_map(|object| &object.commands).flat_map(|c| c.bytes).collect();
-    let kinds = vec![1u8; 1000];
-    let (playbacks, numbers, names) = (vec![0u8; 1000], vec![7u16; 1000], vec![0u8; 5000]);
-    let mut out = vec![0u8; objects.len()];
+    let (index, objects) = (Index::of(&disc), Objects::of(&disc));
+    let (index_file, object_file) = (disc.index_file(), disc.object_file());
+    let their_index = IndexBdmv::parse(&index_file).unwrap();
+    let their_objects = MovieObjects::parse(&object_file).unwrap();
+    let mut out = vec![0u8; object_file.len()];
     let theirs = || {
-        black_box(black_box(&read_index).encode());
-        black_box(black_box(&read_objects).encode());
+        black_box(black_box(&their_index).encode());
+        black_box(black_box(&their_objects).encode());
     };
-    let ours = || unsafe {
-        let mut length = 0;
-        let (o, ol) = (out.as_mut_ptr(), out.len());
-        let (f, n, c) = (&flags, &counts, &commands);
-        let refusal = raw::mescjadro_write_index(
-            version,
-            disc.app.as_ptr(),
-            4,
-            kinds.as_ptr(),
-            1000,
-            playbacks.as_ptr(),
-            1000,
-            numbers.as_ptr(),
-            1000,
-            names.as_ptr(),
-            5000,
-            o,
-            ol,
-            &mut length,
-        );
-        assert_eq!((refusal, length), (0, index.len()));
-        let refusal = raw::mescjadro_write_objects(
-            version,
-            f.as_ptr(),
-            f.len(),
-            n.as_ptr(),
-            n.len(),
-            c.as_ptr(),
-            c.len(),
-            o,
-            ol,
-            &mut length,
-        );
-        assert_eq!((refusal, length), (0, objects.len()));
+    let ours = || {
+        let (mut first, mut second) = (0, 0);
+        let refusal = index.write(&mut out, &mut first);
+        assert_eq!((refusal, first), (0, index_file.len()));
+        let refusal = objects.write(&mut out, &mut second);
+        assert_eq!((refusal, second), (0, object_file.len()));
     };
     table.both("write both files, 1 MiB and 998 titles", 1, Some(1.0), Box::new(theirs), Box::new(ours));
 }

@@ -37,15 +37,16 @@ fn disc_number(n: usize) -> Disc {
     discs::of(titles(), vec![vec![command(0), command(1)], vec![command(2), command(3)]])
 }
 
-/// Every disc of two objects with two commands of the palette: checked, and driven with every small triple of budgets.
+/// Every disc of two objects with two commands of the palette: checked, and driven with every triple of up to
+/// three steps, three object transitions and two title transitions.
 fn all_discs(tally: &mut Tally) {
     let index = disc_number(0).index_file();
     for n in 0..PALETTE.len().pow(4) {
         let disc = disc_number(n);
         let file = disc.object_file();
         tally.hold(&Check::of(&disc));
-        for triple in 0..18 {
-            let budgets = [[1, 2, 9][triple % 3], [0, 1, 4][triple / 3 % 3], [0, 3][triple / 9]];
+        for triple in 0..48 {
+            let budgets = [triple % 4, triple / 4 % 4, triple / 16];
             let calls = [Call::DriverRun(65_536), Call::DriverResume, Call::DriverResume];
             let acts = calls.map(|call| Act::Drive(call, budgets)).to_vec();
             let sizes = Sizes::of_rooms(2 * 30, 3 * 4);

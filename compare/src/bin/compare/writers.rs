@@ -3,7 +3,6 @@ use crate::check::{Case, Compared, Tally, refusal_seen, same, same_list};
 use mescjadro_compare::bdmv::index_bdmv::{AppInfoBdmv, IndexBdmv, IndexEntry, IndexObjectType};
 use mescjadro_compare::bdmv::movie_object::{MovieObject, MovieObjects, NavCommand};
 use mescjadro_compare::chance::Chance;
-use mescjadro_compare::generate::commands::file_part;
 use mescjadro_compare::generate::discs::{self, Disc};
 use mescjadro_compare::library::{self, Index, Objects};
 use mescjadro_compare::paper::files::LIMIT;
@@ -28,13 +27,7 @@ fn refused(refusal: u32, written: library::Answer<Vec<u8>>) -> Compared {
 
 impl WriteObjects {
     pub fn of(disc: &Disc, spare: isize) -> Self {
-        let record = Objects {
-            version: u32::from_be_bytes(disc.version),
-            flags: disc.objects.iter().flat_map(|object| object.flags).collect(),
-            counts: disc.objects.iter().map(|object| object.commands.len() as u32).collect(),
-            commands: disc.objects.iter().flat_map(|object| file_part(&object.commands)).collect(),
-        };
-        WriteObjects { record, spare }
+        WriteObjects { record: Objects::of(disc), spare }
     }
 
     fn size(&self) -> usize {
@@ -113,15 +106,7 @@ pub struct WriteIndex {
 
 impl WriteIndex {
     pub fn of(disc: &Disc, spare: isize) -> Self {
-        let record = Index {
-            version: u32::from_be_bytes(disc.version),
-            app: disc.app.to_vec(),
-            kinds: disc.entries.iter().map(|entry| entry.kind).collect(),
-            playbacks: disc.entries.iter().map(|entry| entry.playback).collect(),
-            objects: disc.entries.iter().map(|entry| entry.object).collect(),
-            names: disc.entries.iter().flat_map(|entry| entry.name).collect(),
-        };
-        WriteIndex { record, spare }
+        WriteIndex { record: Index::of(disc), spare }
     }
 
     fn size(&self) -> usize {
