@@ -1,0 +1,69 @@
+use mathlib.Core.Path.{_≡_}
+use Prim.Native.Nat.{_-_}
+use lib.ListN.{length}
+use borrow.Author.Needs.{needs}
+use Rattle.drive.proofs.read_options.Statement.{statement}
+use Rattle.drive.proofs.read_options.Tie as tie
+use Rattle.drive.proofs.read_options.Reads as reads
+use Rattle.drive.proofs.read_options.Lts as lts
+use Rattle.drive.proofs.read_option.Reads as read-option-reads
+use Rattle.os.proofs.arg_count.Reads as arg-count-reads
+
+abbrev Inv-loop : tie.InvT-loop
+Inv-loop gpr₀ psr₀ options₀ count k₀ gpr psr options k =
+    (length gpr ≡ length gpr₀) × (length psr ≡ length psr₀)
+
+abbrev μ-loop : tie.MeasureT-loop
+μ-loop gpr₀ psr₀ options₀ count k₀ gpr psr options k = count - k
+
+-- src/main.rt:219:9
+arg-count-requires : tie.Need-arg-count-requires Inv-loop μ-loop
+arg-count-requires c κs = search needs
+
+-- src/main.rt:221:5
+loop-holds : tie.Need-loop-holds Inv-loop μ-loop
+loop-holds c = search needs
+
+-- src/main.rt:222:9
+read-option-requires : tie.Need-read-option-requires Inv-loop μ-loop
+read-option-requires c κs = search needs
+
+-- src/main.rt:223:9
+add-k : tie.Need-add-k Inv-loop μ-loop
+add-k c = search needs
+
+-- src/main.rt:221:5
+loop-less : tie.Need-loop-less Inv-loop μ-loop
+loop-less c = search needs
+
+-- src/main.rt:221:5
+loop-again : tie.Need-loop-again Inv-loop μ-loop
+loop-again c = search needs
+
+-- src/main.rt:210:1
+same-length : tie.Need-same-length Inv-loop μ-loop
+same-length c = search needs
+
+-- src/main.rt:210:1
+same-length-2 : tie.Need-same-length-2 Inv-loop μ-loop
+same-length-2 c = search needs
+
+-- src/main.rt:210:1
+returns : tie.Need-returns Inv-loop μ-loop
+returns c = search needs
+
+pub read-options-spec : {M : Type 1} → statement M
+read-options-spec =
+    tie.close
+    (tie.spec
+    Inv-loop
+    μ-loop
+    arg-count-requires
+    loop-holds
+    read-option-requires
+    add-k
+    loop-less
+    loop-again
+    same-length
+    same-length-2
+    returns)
