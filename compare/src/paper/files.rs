@@ -69,3 +69,11 @@ pub fn objects(file: &[u8]) -> u32 {
 pub fn index(file: &[u8]) -> u32 {
     read_index(file).err().unwrap_or(FINE)
 }
+
+/// The listing program takes at most so many bytes.
+pub const LISTED: usize = 65_536;
+
+/// The number that the listing program prints of a file, or 0.
+pub fn listing(file: &[u8]) -> u32 {
+    if file.len() > LISTED { TOO_LONG } else { objects(file) }
+}
