@@ -69,9 +69,8 @@ fn record(command: [u8; 12], out: &mut Vec<u8>) {
     out.extend(text.bytes());
 }
 
-/// Every code with a name and those beside it, by group, sub-group and count; every bank and edge of an operand; and chance.
-fn commands() -> Vec<[u32; 3]> {
-    let mut all = Vec::new();
+/// Every code with a name and those beside it, by group, sub-group and count.
+fn codes(all: &mut Vec<[u32; 3]>) {
     let mut c = Chance(1);
     let mut word = |flag: u32| if flag == 1 { c.one(&IMMEDIATES) } else { c.one(&BANKS) | c.one(&INDICES) };
     for group in 0..4u32 {
@@ -90,6 +89,12 @@ fn commands() -> Vec<[u32; 3]> {
             all.push([count << 29 | 2 << 27 | flags << 22 | 1, word(flags >> 1), word(flags & 1)]);
         }
     }
+}
+
+/// All codes; every bank and edge of an operand; and chance.
+fn commands() -> Vec<[u32; 3]> {
+    let mut all = Vec::new();
+    codes(&mut all);
     for bank in BANKS {
         for index in INDICES {
             all.push([0x5000_0001, bank | index, 0x8000_0004]);

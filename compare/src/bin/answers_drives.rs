@@ -82,38 +82,35 @@ fn title(c: &mut Chance) -> u32 {
     if c.once_in(5) { c.one(&NUMBERS) } else { 1 + c.below(3) as u32 }
 }
 
+fn to_object(c: &mut Chance, option: u32, objects: u64) -> [u32; 3] {
+    let to = object(c, objects);
+    one(c, branch(1, option), to)
+}
+
+fn to_title(c: &mut Chance, option: u32) -> [u32; 3] {
+    let to = title(c);
+    one(c, branch(1, option), to)
+}
+
+fn play(c: &mut Chance, options: u64) -> [u32; 3] {
+    let option = c.below(options) as u32;
+    two(c, branch(2, option), true)
+}
+
 fn command(c: &mut Chance, objects: u64) -> [u32; 3] {
     match c.below(28) {
-        0 | 1 => {
-            let to = object(c, objects);
-            one(c, branch(1, 0), to)
-        }
-        2..=5 => {
-            let to = object(c, objects);
-            one(c, branch(1, 2), to)
-        }
-        6 | 7 => {
-            let to = title(c);
-            one(c, branch(1, 1), to)
-        }
-        8..=11 => {
-            let to = title(c);
-            one(c, branch(1, 3), to)
-        }
+        0 | 1 => to_object(c, 0, objects),
+        2..=5 => to_object(c, 2, objects),
+        6 | 7 => to_title(c, 1),
+        8..=11 => to_title(c, 3),
         12 => [branch(1, 4), 0, 0],
         13 => [branch(0, 2), 0, 0],
         14 => {
             let to = c.below(6) as u32;
             one(c, branch(0, 1), to)
         }
-        15..=17 => {
-            let option = c.below(3) as u32;
-            two(c, branch(2, option), true)
-        }
-        18 | 19 => {
-            let option = c.below(6) as u32;
-            two(c, branch(2, option), true)
-        }
+        15..=17 => play(c, 3),
+        18 | 19 => play(c, 6),
         20 | 21 => {
             let code = c.below(14) as u32;
             two(c, set(1, code), false)
@@ -338,17 +335,21 @@ fn put_session(out: &mut Vec<u8>, driver: &NavDriver) -> Option<()> {
     Some(())
 }
 
+fn write(driver: &mut NavDriver, status: bool, index: u16, value: u32, out: &mut Vec<u8>) {
+    if status {
+        driver.registers_mut().set_psr_player(index as u8, value);
+    } else {
+        driver.registers_mut().set_gpr(index, value);
+    }
+    out.extend([4, status as u8]);
+    out.extend(index.to_be_bytes());
+    out.extend(value.to_be_bytes());
+}
+
 fn make(driver: &mut NavDriver, call: &Call, out: &mut Vec<u8>, seen: &mut [usize]) -> Option<()> {
     match *call {
         Call::Write { status, index, value } => {
-            if status {
-                driver.registers_mut().set_psr_player(index as u8, value);
-            } else {
-                driver.registers_mut().set_gpr(index, value);
-            }
-            out.extend([4, status as u8]);
-            out.extend(index.to_be_bytes());
-            out.extend(value.to_be_bytes());
+            write(driver, status, index, value, out);
             seen[4] += 1;
         }
         Call::Drive { kind, argument, steps, objects, titles } => {

@@ -107,22 +107,8 @@ fn entry(out: &mut Vec<u8>, kind: u8, index: u16, value: u32) {
     out.extend(value.to_be_bytes());
 }
 
-fn case(c: &mut Chance, out: &mut Vec<u8>) {
-    let length = if c.once_in(10) { c.below(2) } else { 2 + c.below(7) } as usize;
-    let commands: Vec<NavCommand> = (0..length)
-        .map(|_| {
-            let words = command(c, length).map(u32::to_be_bytes);
-            NavCommand { bytes: words.concat().try_into().unwrap() }
-        })
-        .collect();
-    let pc = if c.once_in(8) { c.below(length as u64 + 3) as usize } else { 0 };
-    let budget = if c.once_in(6) { c.below(3) } else { c.below(40) };
-    let mut vm = HdmvVm::new();
-    vm.set_pc(pc);
-    vm.set_step_budget(budget);
-    out.extend((length as u16).to_be_bytes());
-    out.extend((pc as u32).to_be_bytes());
-    out.extend((budget as u32).to_be_bytes());
+/// Registers that the player sets before the first call.
+fn put_held(c: &mut Chance, vm: &mut HdmvVm, out: &mut Vec<u8>) {
     let sets = 5 + c.below(6) as u8;
     out.push(sets);
     for _ in 0..sets {
@@ -137,17 +123,16 @@ fn case(c: &mut Chance, out: &mut Vec<u8>) {
             entry(out, 1, index, value);
         }
     }
-    for command in &commands {
-        out.extend(command.bytes);
-    }
-    let general = *probe::general(&vm.registers);
-    let status = *probe::status(&vm.registers);
+}
+
+/// Steps and runs with their answers; the last call is a run.
+fn put_calls(c: &mut Chance, vm: &mut HdmvVm, commands: &[NavCommand], out: &mut Vec<u8>) {
     let most = 2 + c.below(9);
     let mut calls = Vec::new();
     let mut made = 0;
     for i in 1..=most {
         let run = i == most || c.once_in(12);
-        let step = if run { vm.run(&commands) } else { vm.step(&commands) };
+        let step = if run { vm.run(commands) } else { vm.step(commands) };
         let [kind, a, b, op] = numbers(step);
         calls.extend([run as u8, kind as u8]);
         for number in [a, b, op, vm.pc() as u32] {
@@ -160,23 +145,45 @@ fn case(c: &mut Chance, out: &mut Vec<u8>) {
     }
     out.push(made);
     out.extend(calls);
+}
+
+/// The registers that hold something else than before.
+fn put_changes(out: &mut Vec<u8>, general: &[u32], status: &[u32], vm: &HdmvVm) {
     let mut changed = Vec::new();
-    for i in 0..4096u16 {
-        let now = probe::general(&vm.registers)[i as usize];
-        if now != general[i as usize] {
-            changed.push((0, i, now));
-        }
-    }
-    for i in 0..128u16 {
-        let now = probe::status(&vm.registers)[i as usize];
-        if now != status[i as usize] {
-            changed.push((1, i, now));
-        }
+    let banks: [(&[u32], &[u32]); 2] =
+        [(general, probe::general(&vm.registers)), (status, probe::status(&vm.registers))];
+    for (kind, (before, now)) in banks.into_iter().enumerate() {
+        let differ = (0..before.len()).filter(|&i| now[i] != before[i]);
+        changed.extend(differ.map(|i| (kind as u8, i as u16, now[i])));
     }
     out.extend((changed.len() as u16).to_be_bytes());
     for (kind, index, value) in changed {
         entry(out, kind, index, value);
     }
+}
+
+fn case(c: &mut Chance, out: &mut Vec<u8>) {
+    let length = if c.once_in(10) { c.below(2) } else { 2 + c.below(7) } as usize;
+    let nav_command = |c: &mut Chance| {
+        let words = command(c, length).map(u32::to_be_bytes);
+        NavCommand { bytes: words.concat().try_into().unwrap() }
+    };
+    let commands: Vec<NavCommand> = (0..length).map(|_| nav_command(c)).collect();
+    let pc = if c.once_in(8) { c.below(length as u64 + 3) as usize } else { 0 };
+    let budget = if c.once_in(6) { c.below(3) } else { c.below(40) };
+    let mut vm = HdmvVm::new();
+    vm.set_pc(pc);
+    vm.set_step_budget(budget);
+    out.extend((length as u16).to_be_bytes());
+    out.extend((pc as u32).to_be_bytes());
+    out.extend((budget as u32).to_be_bytes());
+    put_held(c, &mut vm, out);
+    for command in &commands {
+        out.extend(command.bytes);
+    }
+    let (general, status) = (*probe::general(&vm.registers), *probe::status(&vm.registers));
+    put_calls(c, &mut vm, &commands, out);
+    put_changes(out, &general, &status, &vm);
 }
 
 fn main() {

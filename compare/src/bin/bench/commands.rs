@@ -75,11 +75,11 @@ fn list_row(table: &mut Table, what: &str, commands: &Commands) {
 }
 
 fn list_objects_row(table: &mut Table, what: &str, file: &[u8], numbers: std::ops::Range<u32>) {
-    let read = MovieObjects::parse(file).unwrap();
     let lists = numbers.clone();
     let theirs = move || {
+        let read = MovieObjects::parse(black_box(file)).unwrap();
         for n in lists.clone() {
-            black_box(black_box(&read).movie_objects[n as usize].disassemble(n as usize));
+            black_box(read.movie_objects[n as usize].disassemble(n as usize));
         }
     };
     let mut out = vec![0; 1 << 16];
@@ -104,6 +104,11 @@ pub fn rows(table: &mut Table) {
     list_row(table, "list a random command", &random);
     let disc = disc_of_length(MIB, 100);
     let (file, count) = (disc.object_file(), disc.objects.len() as u32);
-    list_objects_row(table, "list one object of 100 commands", &disc_of_length(1400, 100).object_file(), 0..1);
-    list_objects_row(table, "list all objects of 1 MiB, 100 commands an object", &file, 0..count);
+    list_objects_row(
+        table,
+        "list one object of 100 commands, from its file",
+        &disc_of_length(1400, 100).object_file(),
+        0..1,
+    );
+    list_objects_row(table, "list all objects of 1 MiB, 100 commands an object, from the file", &file, 0..count);
 }

@@ -159,6 +159,16 @@ pub fn all_codes(tally: &mut Tally) {
     }
 }
 
+/// Every register of every bank as each operand.
+pub fn all_operands(tally: &mut Tally) {
+    for bank in [0, 0x4000_0000, 0x8000_0000, 0xc000_0000] {
+        for index in 0..4096 {
+            tally.hold(&Command(bytes([0x5000_0001, bank | index, 0x8000_0004])));
+            tally.hold(&Command(bytes([0x4800_0200, 7, bank | index])));
+        }
+    }
+}
+
 pub fn compare(tally: &mut Tally, c: &mut Chance, count: u64) {
     tally.hold(&WrongLengths);
     for _ in 0..count {

@@ -219,6 +219,18 @@ fn player(c: &mut Chance) -> Player {
     }
 }
 
+/// Every status register, and some numbers that name none, written by Move and taken by Swap.
+pub fn all_registers(tally: &mut Tally) {
+    for index in (0..140u32).chain([200, 255, 256, 260, 4095]) {
+        for bank in [0x8000_0000, 0xc000_0000] {
+            let word = bank | index;
+            let commands = vec![commands::assign(word, 9), [0x5000_0002, 1, word], [0x5000_0002, word, 2]];
+            let held = vec![(true, index as u16, 5), (false, 1, 6), (false, 2, 7)];
+            tally.hold(&Program { commands, held, pc: 0, budget: 9, calls: vec![false, false, false] });
+        }
+    }
+}
+
 pub fn compare(tally: &mut Tally, c: &mut Chance, count: u64) {
     for _ in 0..count {
         tally.hold(&program(c));

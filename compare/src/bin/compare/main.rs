@@ -17,7 +17,7 @@ use mescjadro_compare::chance::Chance;
 use std::time::Instant;
 
 const SEED: u64 = 20_261_115;
-const COUNT: u64 = 80_000;
+const COUNT: u64 = 60_000;
 
 fn part(tally: &mut Tally, name: &'static str, compare: impl FnOnce(&mut Tally)) {
     let (began, cases, answers) = (Instant::now(), tally.cases, tally.answers);

@@ -1,10 +1,11 @@
-//! Short inputs, all of them: every code of a command, every beginning of small files, every name of boundary bytes,
-//! every disc of two objects with two commands out of thirteen.
+//! Short inputs, all of them: every code and operand of a command, every beginning of small files, every name of
+//! boundary bytes, every disc of two objects with two commands out of thirteen.
 use crate::check::Tally;
 use crate::checks::Check;
-use crate::commands::all_codes;
+use crate::commands::{all_codes, all_operands};
 use crate::drives::{Act, Drives};
 use crate::files::{IndexFile, ObjectFile};
+use crate::machine::all_registers;
 use mescjadro_compare::chance::Chance;
 use mescjadro_compare::generate::commands::{BREAK, NOP, RESUME, Words};
 use mescjadro_compare::generate::discs::{self, Disc, bdj, hdmv};
@@ -122,6 +123,8 @@ fn all_names(tally: &mut Tally) {
 
 pub fn compare(tally: &mut Tally, c: &mut Chance) {
     all_codes(tally);
+    all_operands(tally);
+    all_registers(tally);
     all_beginnings(tally, c);
     all_lengths(tally);
     all_names(tally);
