@@ -26,7 +26,7 @@ pub fn same_list<T: PartialEq + Debug>(what: &str, ours: &[T], theirs: &[T]) -> 
         return Ok(1);
     }
     let at = ours.iter().zip(theirs).take_while(|(a, b)| a == b).count();
-    same(&format!("{what}, from place {at} on"), ours.get(at..).map(shortened), theirs.get(at..).map(shortened))
+    same(&format!("{what}, from place {at} on"), shortened(&ours[at..]), shortened(&theirs[at..]))
 }
 
 fn shortened<T: Debug>(list: &[T]) -> String {
