@@ -51,23 +51,22 @@ fn loop_row(table: &mut Table, what: &str, commands: &[Words], target: f64) {
     table.both(what, STEPS as usize, Some(target), Box::new(theirs), Box::new(ours));
 }
 
-/// Random commands from the first to past the last: each stop is gone on from, after at most 64 steps.
+/// Random commands but for GoTo, so that pc goes from the first to past the last: each stop is gone on from.
 fn random_row(table: &mut Table, what: &str, target: f64) {
-    const MOST: u32 = 64;
     let mut c = Chance(5);
-    let commands: Vec<Words> = (0..4096).map(|_| [c.word(), c.word(), c.word()]).collect();
+    let goes_to = |words: &Words| words[0] & 0x1f0f_0000 == 0x0001_0000;
+    let random = std::iter::repeat_with(|| [c.word(), c.word(), c.word()]);
+    let commands: Vec<Words> = random.filter(|words| !goes_to(words)).take(4096).collect();
     let (theirs, ours) = (nav_commands(&commands), file_part(&commands));
     let mut vm = HdmvVm::new();
-    vm.set_step_budget(MOST as u64);
     let (mut steps, mut calls) = (0, 0);
-    while vm.pc() < commands.len() && calls < 2_000 {
+    while vm.pc() < commands.len() {
         vm.run(&theirs);
         steps += probe::steps_taken(&vm) as usize;
         calls += 1;
     }
     let theirs = move || {
         let mut vm = HdmvVm::new();
-        vm.set_step_budget(MOST as u64);
         for _ in 0..calls {
             black_box(vm.run(black_box(&theirs)));
         }
@@ -75,11 +74,16 @@ fn random_row(table: &mut Table, what: &str, target: f64) {
     let ours = move || {
         let mut machine = Machine::new();
         for _ in 0..calls {
-            machine.run(black_box(&ours), MOST);
+            machine.run(black_box(&ours), 1_000_000);
         }
     };
-    let what = format!("{what} ({} calls for {steps} steps)", calls);
-    table.both(&what, steps, Some(target), Box::new(theirs), Box::new(ours));
+    table.both(
+        &format!("{what}, {steps} steps in {calls} runs"),
+        steps,
+        Some(target),
+        Box::new(theirs),
+        Box::new(ours),
+    );
 }
 
 pub fn rows(table: &mut Table) {
