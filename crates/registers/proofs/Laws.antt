@@ -106,13 +106,9 @@ module _ (a : Raw) where
 
 -- a write to a status register, by what the test of its class answers
 module _ (i v : ℕ) (p : List ℕ) {may : Bool} (m : may ≡ writable i) where
-  pub stored : {q : List ℕ} → may ≡ true → q ≡ set p i v → q ≡ writtenStatus i v p
+  pub as-written : {q : List ℕ} → q ≡ cond may (set p i v) p → q ≡ writtenStatus i v p
   unfolding writtenStatus
-  stored h e = e ∙ rw (sym m ∙ h)
-
-  pub dropped : may ≡ false → p ≡ writtenStatus i v p
-  unfolding writtenStatus
-  dropped h = rw (sym m ∙ h)
+  as-written e = e ∙ rw m
 
 -- Sets.
 

@@ -1,6 +1,6 @@
 // The register banks: a fresh bank, the player's reads and writes, and what a Set command leaves (part of the Rust's vm.rs).
 ghost use mathlib.Core.Path.{_≡_};
-ghost use mathlib.Core.Bool.{true, false};
+ghost use mathlib.Core.Bool.{true, false, cond};
 ghost use Prim.Native.Nat.{_%_};
 ghost use lib.ListN.{getD, set, replicate};
 ghost use Rattle.register_model.specs.Rules.{classTable};
@@ -89,14 +89,21 @@ pub fn value(gpr: &[u32], psr: &[u32], a: Raw) -> u32
     0
 }
 
+fn store_if(allowed: bool, bank: &mut [u32], index: u16, value: u32)
+    ensures { λ _. ⌜ now (bank .exit) ≡ cond allowed (set (now (bank .entry)) index value) (now (bank .entry)) ⌝ }
+{
+    if allowed {
+        store(bank, index, value);
+    }
+}
+
 // Writes a status register if commands may write it.
 fn write_status(psr: &mut [u32], classes: &[u8], index: u16, v: u32)
     requires { ⌜ now classes ≡ classTable ⌝ }
     ensures { λ _. ⌜ now (psr .exit) ≡ writtenStatus index v (now (psr .entry)) ⌝ }
 {
-    if register_model::may_write(classes, index) {
-        store(psr, index, v);
-    }
+    let allowed = register_model::may_write(classes, index);
+    store_if(allowed, psr, index, v);
 }
 
 // Writes the register that a word names as a command does: a protected one keeps its value.
@@ -189,12 +196,13 @@ fn set_status(
     ensures { λ _. ⌜ banks (now (gpr .exit)) (now (psr .exit))
         ≡ applied (effectFor (nav.setOf 0 code) x y) (Register Psr index) (meant b) x y (banks (now (gpr .entry)) (now (psr .entry))) ⌝ }
 {
+    let allowed = register_model::may_write(classes, index);
     let effect = compute(code, x, y);
     match effect {
-        Effect::Write(v) => write_status(psr, classes, index, v),
+        Effect::Write(v) => store_if(allowed, psr, index, v),
         Effect::Swap => {
             write(gpr, psr, classes, b, x);
-            write_status(psr, classes, index, y);
+            store_if(allowed, psr, index, y);
         }
         Effect::Nothing => {}
     }
