@@ -1,3 +1,4 @@
+-- An arm for each answer of the check. Assumes nothing.
 use borrow.Author.Needs.{needs}
 use Rattle.numbers.proofs.check_numbers.Statement.{statement}
 use Rattle.numbers.proofs.check_numbers.Tie as tie
@@ -15,7 +16,7 @@ check-numbers-spec =
     (λ c. search needs)
     (λ c. search needs)
     (λ c. search needs)
-    (λ c κs. search needs)
+    (λ c κs. tt)
     (λ c. search needs)
     returns-2
     returns-3)

@@ -1,3 +1,4 @@
+-- A group by its place in the row, and past it reserved (`past`). Assumes nothing.
 use borrow.Author.Needs.{needs}
 use Rattle.nav_command.specs.Rules.{groups}
 use Rattle.numbers.specs.Rules.{groupNamed}
@@ -22,4 +23,4 @@ unfolding groupNamed
 returns-4 c = rw (c .low-byte .ensures) (past groups (c .before .before .args .kind) _ (search needs))
 
 pub group-named-spec : {M : Type 1} → statement M
-group-named-spec = tie.close (tie.spec (λ c κs. search needs) returns returns-2 returns-3 returns-4)
+group-named-spec = tie.close (tie.spec (λ c κs. tt) returns returns-2 returns-3 returns-4)

@@ -1,3 +1,4 @@
+-- An arm for each group. Assumes nothing.
 use borrow.Author.Needs.{needs}
 use Rattle.numbers.proofs.group_pair.Statement.{statement}
 use Rattle.numbers.proofs.group_pair.Tie as tie
@@ -19,14 +20,14 @@ group-pair-spec =
     tie.close
     (tie.spec
     (λ c. search needs)
-    (λ c κs. search needs)
+    (λ c κs. tt)
     (λ c. search needs)
-    (λ c κs. search needs)
+    (λ c κs. tt)
     (λ c. search needs)
-    (λ c κs. search needs)
+    (λ c κs. tt)
     (λ c. search needs)
     (λ c. search needs)
-    (λ c κs. search needs)
+    (λ c κs. tt)
     returns
     returns-2
     returns-3

@@ -1,4 +1,4 @@
-use borrow.Author.Needs.{needs}
+-- The numbers of what is named, held to the numbers given. Assumes nothing.
 use Rattle.numbers.specs.Rules.{isCommand}
 use Rattle.numbers.proofs.is_command.Statement.{statement}
 use Rattle.numbers.proofs.is_command.Tie as tie
@@ -9,4 +9,4 @@ returns c = rw (c .same .ensures, c .before .before .command-numbers .ensures, c
 
 pub is-command-spec : {M : Type 1} → statement M
 is-command-spec =
-    tie.close (tie.spec (λ c κs. search needs) (λ c κs. search needs) (λ c κs. search needs) returns)
+    tie.close (tie.spec (λ c κs. tt) (λ c κs. tt) (λ c κs. tt) returns)

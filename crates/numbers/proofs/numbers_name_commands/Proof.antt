@@ -1,3 +1,4 @@
+-- The two halves are `command-named` and `numbers-are`. Assumes nothing.
 use Rattle.numbers.proofs.Laws.{command-named, numbers-are}
 use Rattle.numbers.proofs.numbers_name_commands.Statement.{statement}
 use Rattle.numbers.proofs.numbers_name_commands.Tie as tie

@@ -1,3 +1,4 @@
+-- An operand by its place in the row, and past it absent (`past`). Assumes nothing.
 use borrow.Author.Needs.{needs}
 use Rattle.numbers.specs.Rules.{operandNamed}
 use Rattle.numbers.specs.Rules.{operandRow}
@@ -33,9 +34,9 @@ pub operand-named-spec : {M : Type 1} → statement M
 operand-named-spec =
     tie.close
     (tie.spec
-    (λ c κs. search needs)
-    (λ c κs. search needs)
-    (λ c κs. search needs)
+    (λ c κs. tt)
+    (λ c κs. tt)
+    (λ c κs. tt)
     returns
     returns-2
     returns-3

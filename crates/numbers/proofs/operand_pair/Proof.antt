@@ -1,3 +1,4 @@
+-- An arm for each kind of operand. Assumes nothing.
 use borrow.Author.Needs.{needs}
 use Rattle.numbers.proofs.operand_pair.Statement.{statement}
 use Rattle.numbers.proofs.operand_pair.Tie as tie
@@ -16,13 +17,13 @@ operand-pair-spec =
     tie.close
     (tie.spec
     (λ c. search needs)
-    (λ c κs. search needs)
+    (λ c κs. tt)
     (λ c. search needs)
-    (λ c κs. search needs)
+    (λ c κs. tt)
     (λ c. search needs)
-    (λ c κs. search needs)
+    (λ c κs. tt)
     (λ c. search needs)
-    (λ c κs. search needs)
+    (λ c κs. tt)
     returns
     returns-2
     returns-3)

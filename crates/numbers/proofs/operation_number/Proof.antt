@@ -1,3 +1,4 @@
+-- An arm for each part of the sheet. Assumes nothing.
 use borrow.Author.Needs.{needs}
 use Rattle.numbers.proofs.operation_number.Statement.{statement}
 use Rattle.numbers.proofs.operation_number.Tie as tie
@@ -16,18 +17,18 @@ operation-number-spec =
     tie.close
     (tie.spec
     (λ c. search needs)
-    (λ c κs. search needs)
+    (λ c κs. tt)
     (λ c. search needs)
     (λ c. search needs)
-    (λ c κs. search needs)
-    (λ c. search needs)
-    (λ c. search needs)
-    (λ c. search needs)
-    (λ c κs. search needs)
+    (λ c κs. tt)
     (λ c. search needs)
     (λ c. search needs)
     (λ c. search needs)
-    (λ c κs. search needs)
+    (λ c κs. tt)
+    (λ c. search needs)
+    (λ c. search needs)
+    (λ c. search needs)
+    (λ c κs. tt)
     (λ c. search needs)
     (λ c. search needs)
     (λ c. search needs)

@@ -1,3 +1,4 @@
+-- Given, or not. Assumes nothing.
 use borrow.Author.Needs.{needs}
 use Rattle.numbers.proofs.option_pair.Statement.{statement}
 use Rattle.numbers.proofs.option_pair.Tie as tie
@@ -11,4 +12,4 @@ returns-2 c = rw (c .before .before .option .given .1, c .pair-of2 .ensures)
 pub option-pair-spec : {M : Type 1} → statement M
 option-pair-spec =
     tie.close
-    (tie.spec (λ c. search needs) (λ c κs. search needs) (λ c. search needs) (λ c κs. search needs) returns returns-2)
+    (tie.spec (λ c. search needs) (λ c κs. tt) (λ c. search needs) (λ c κs. tt) returns returns-2)

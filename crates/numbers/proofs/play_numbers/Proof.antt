@@ -1,4 +1,4 @@
-use borrow.Author.Needs.{needs}
+-- The two options beside the playlist. Assumes nothing.
 use Rattle.numbers.proofs.play_numbers.Statement.{statement}
 use Rattle.numbers.proofs.play_numbers.Tie as tie
 
@@ -6,4 +6,4 @@ returns : tie.Need-returns
 returns c = rw (c .option-pair2 .ensures, c .before .option-pair .ensures)
 
 pub play-numbers-spec : {M : Type 1} → statement M
-play-numbers-spec = tie.close (tie.spec (λ c κs. search needs) (λ c κs. search needs) returns)
+play-numbers-spec = tie.close (tie.spec (λ c κs. tt) (λ c κs. tt) returns)

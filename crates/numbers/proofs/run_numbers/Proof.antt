@@ -1,3 +1,4 @@
+-- An arm for each outcome of the runner. Assumes nothing.
 use borrow.Author.Needs.{needs}
 use Rattle.numbers.proofs.run_numbers.Statement.{statement}
 use Rattle.numbers.proofs.run_numbers.Tie as tie
@@ -22,15 +23,15 @@ run-numbers-spec =
     tie.close
     (tie.spec
     (λ c. search needs)
-    (λ c κs. search needs)
+    (λ c κs. tt)
     (λ c. search needs)
-    (λ c κs. search needs)
+    (λ c κs. tt)
     (λ c. search needs)
-    (λ c κs. search needs)
+    (λ c κs. tt)
     (λ c. search needs)
-    (λ c κs. search needs)
+    (λ c κs. tt)
     (λ c. search needs)
-    (λ c κs. search needs)
+    (λ c κs. tt)
     returns
     returns-2
     returns-3

@@ -1,3 +1,4 @@
+-- The sheet part by part (`sheet-branch` to `sheet-system`), and what it lacks. Assumes nothing.
 use borrow.Author.Needs.{needs}
 use Rattle.numbers.proofs.Laws.{sheet-none, sheet-branch, sheet-compare, sheet-set, sheet-system, sheet-past}
 use Rattle.numbers.proofs.sheet_named.Statement.{statement}

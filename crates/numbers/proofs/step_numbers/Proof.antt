@@ -1,3 +1,4 @@
+-- An arm for each answer of a step. Assumes nothing.
 use borrow.Author.Needs.{needs}
 use Rattle.numbers.proofs.step_numbers.Statement.{statement}
 use Rattle.numbers.proofs.step_numbers.Tie as tie
@@ -13,7 +14,7 @@ step-numbers-spec =
     (λ c. search needs)
     (λ c. search needs)
     (λ c. search needs)
-    (λ c κs. search needs)
+    (λ c κs. tt)
     (λ c. search needs)
     (λ c. search needs)
     (λ c. search needs)

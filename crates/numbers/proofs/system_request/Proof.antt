@@ -1,4 +1,4 @@
-use borrow.Author.Needs.{needs}
+-- The operation's number and its unknown code. Assumes nothing.
 use Rattle.numbers.proofs.system_request.Statement.{statement}
 use Rattle.numbers.proofs.system_request.Tie as tie
 
@@ -6,4 +6,4 @@ returns : tie.Need-returns
 returns c = rw (c .unknown-of .ensures, c .before .operation-number .ensures)
 
 pub system-request-spec : {M : Type 1} → statement M
-system-request-spec = tie.close (tie.spec (λ c κs. search needs) (λ c κs. search needs) returns)
+system-request-spec = tie.close (tie.spec (λ c κs. tt) (λ c κs. tt) returns)

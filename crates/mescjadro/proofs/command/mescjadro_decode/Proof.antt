@@ -1,3 +1,4 @@
+-- Two tests of lengths, then `decoded`. Assumes nothing.
 use borrow.Author.Needs.{needs}
 use borrow.Author.Tests.{eq-eqb, ne-eqb}
 use Rattle.mescjadro.specs.Rules.{decodeCall}

@@ -1,3 +1,4 @@
+-- A test of the length, one of the numbers, then the encoder. Assumes nothing.
 use borrow.Author.Needs.{needs}
 use borrow.Author.Tests.{eq-eqb, ne-eqb}
 use Rattle.mescjadro.specs.Rules.{encodeCall}
@@ -20,13 +21,13 @@ pub mescjadro-encode-spec : {M : Type 1} → statement M
 mescjadro-encode-spec =
     tie.close
     (tie.spec
-    (λ c κs. search needs)
+    (λ c κs. tt)
     returns
-    (λ c κs. search needs)
-    (λ c κs. search needs)
-    (λ c κs. search needs)
-    (λ c κs. search needs)
+    (λ c κs. tt)
+    (λ c κs. tt)
+    (λ c κs. tt)
+    (λ c κs. tt)
     (λ c. search needs)
     returns-2
-    (λ c κs. search needs)
+    (λ c κs. tt)
     returns-3)

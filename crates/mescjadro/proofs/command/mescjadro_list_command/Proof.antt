@@ -1,3 +1,4 @@
+-- A test of the length, then `listed`. Assumes nothing.
 use borrow.Author.Needs.{needs}
 use borrow.Author.Tests.{ne-eqb}
 use Rattle.mescjadro.specs.Rules.{listCommandCall}

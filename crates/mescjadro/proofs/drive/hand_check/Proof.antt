@@ -1,3 +1,4 @@
+-- An arm for each answer of the check; a refusal writes nothing. Assumes nothing.
 use borrow.Author.Needs.{needs}
 use Rattle.mescjadro.proofs.drive.hand_check.Statement.{statement}
 use Rattle.mescjadro.proofs.drive.hand_check.Tie as tie

@@ -1,3 +1,4 @@
+-- A refusal writes nothing; an end writes session and outcome. Assumes nothing.
 use borrow.Author.Needs.{needs}
 use Rattle.mescjadro.proofs.drive.hand_drive.Statement.{statement}
 use Rattle.mescjadro.proofs.drive.hand_drive.Tie as tie
@@ -13,9 +14,9 @@ hand-drive-spec =
     tie.close
     (tie.spec
     (λ c. search needs)
-    (λ c κs. search needs)
+    (λ c κs. tt)
     (λ c. search needs)
-    (λ c κs. search needs)
+    (λ c κs. tt)
     (λ c κs. search needs)
     (λ c. search needs)
     (λ c κs. search needs)

@@ -1,3 +1,4 @@
+-- The three tests as the rule has them. Assumes nothing.
 use mathlib.Core.Path.{refl}
 use Rattle.mescjadro.specs.Rules.{lengthsFit}
 use Rattle.mescjadro.proofs.drive.lengths_fit.Statement.{statement}

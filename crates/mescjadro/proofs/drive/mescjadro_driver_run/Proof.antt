@@ -1,3 +1,4 @@
+-- Lengths that fit lead to the driver (`drove`), others to refusal 6 (`drove-not`). Assumes nothing.
 use mathlib.Core.Path.{sym, _∙_}
 use borrow.Author.Needs.{needs}
 use Rattle.mescjadro.proofs.Laws.{fits-told, drove, drove-not}
@@ -17,10 +18,10 @@ pub mescjadro-driver-run-spec : {M : Type 1} → statement M
 mescjadro-driver-run-spec =
     tie.close
     (tie.spec
-    (λ c κs. search needs)
-    (λ c κs. search needs)
-    (λ c κs. search needs)
-    (λ c κs. search needs)
+    (λ c κs. tt)
+    (λ c κs. tt)
+    (λ c κs. tt)
+    (λ c κs. tt)
     hand-drive-requires
     (λ c. search needs)
     (λ c. search needs)
@@ -29,7 +30,7 @@ mescjadro-driver-run-spec =
     (λ c. search needs)
     (λ c. search needs)
     returns
-    (λ c κs. search needs)
+    (λ c κs. tt)
     (λ c. search needs)
     (λ c. search needs)
     returns-2)

@@ -1,3 +1,4 @@
+-- The six numbers, copied. Assumes nothing.
 use mathlib.Core.Path.{_∙_}
 use borrow.Author.Needs.{needs}
 use Rattle.mescjadro.proofs.drive.put_session.Statement.{statement}

@@ -1,3 +1,4 @@
+-- After i turns the first i numbers are those of the other array (`copied`). Assumes nothing.
 use mathlib.Core.Path.{_≡_, refl}
 use Prim.Native.Nat.{_-_, _≤_}
 use native.Mathlib.Omega.{arith}

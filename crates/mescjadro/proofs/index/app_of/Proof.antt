@@ -1,4 +1,4 @@
-use borrow.Author.Needs.{needs}
+-- The four bytes as they are read. Assumes nothing.
 use Rattle.mescjadro.proofs.index.app_of.Statement.{statement}
 use Rattle.mescjadro.proofs.index.app_of.Tie as tie
 
@@ -8,4 +8,4 @@ returns c = rw (c .byte-at4 .ensures, c .before .byte-at3 .ensures, c .before .b
 pub app-of-spec : {M : Type 1} → statement M
 app-of-spec =
     tie.close
-    (tie.spec (λ c κs. search needs) (λ c κs. search needs) (λ c κs. search needs) (λ c κs. search needs) returns)
+    (tie.spec (λ c κs. tt) (λ c κs. tt) (λ c κs. tt) (λ c κs. tt) returns)

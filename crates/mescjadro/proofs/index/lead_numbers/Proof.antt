@@ -1,3 +1,4 @@
+-- An object, or nothing. Assumes nothing.
 use borrow.Author.Needs.{needs}
 use Rattle.mescjadro.proofs.index.lead_numbers.Statement.{statement}
 use Rattle.mescjadro.proofs.index.lead_numbers.Tie as tie

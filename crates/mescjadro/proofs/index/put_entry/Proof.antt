@@ -1,3 +1,4 @@
+-- An arm for each type of entry. Assumes nothing.
 use mathlib.Core.Path.{_∙_}
 use borrow.Author.Needs.{needs}
 use Rattle.mescjadro.proofs.index.put_entry.Statement.{statement}

@@ -1,3 +1,4 @@
+-- The listing, and its length. Assumes nothing.
 use mathlib.Core.Path.{ap}
 use borrow.Author.Needs.{needs}
 use Rattle.mescjadro.specs.Rules.{measured, listObjectCall}
@@ -10,4 +11,4 @@ returns c = rw (← c .before .before .before .before .list .ensures) (ap (measu
 
 pub mescjadro-list-object-spec : {M : Type 1} → statement M
 mescjadro-list-object-spec =
-    tie.close (tie.spec (λ c κs. search needs) (λ c κs. search needs) (λ c. search needs) returns)
+    tie.close (tie.spec (λ c κs. tt) (λ c κs. tt) (λ c. search needs) returns)

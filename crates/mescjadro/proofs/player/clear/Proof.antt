@@ -1,3 +1,4 @@
+-- After i turns the first i numbers are 0 (`cleared`). Assumes nothing.
 use mathlib.Core.Path.{_≡_, refl}
 use Prim.Native.Nat.{_-_, _≤_}
 use native.Mathlib.Omega.{arith}

@@ -1,3 +1,4 @@
+-- An arm for each answer of a read. Assumes nothing.
 use borrow.Author.Needs.{needs}
 use Rattle.mescjadro.proofs.player.hand_read.Statement.{statement}
 use Rattle.mescjadro.proofs.player.hand_read.Tie as tie

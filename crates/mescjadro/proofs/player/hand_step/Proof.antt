@@ -1,3 +1,4 @@
+-- A refusal writes nothing; a step writes pc and answer. Assumes nothing.
 use borrow.Author.Needs.{needs}
 use Rattle.mescjadro.proofs.player.hand_step.Statement.{statement}
 use Rattle.mescjadro.proofs.player.hand_step.Tie as tie

@@ -1,3 +1,4 @@
+-- Two tests of lengths, then zeros (`fresh-made`). Assumes nothing.
 use borrow.Author.Needs.{needs}
 use borrow.Author.Tests.{eq-eqb, ne-eqb}
 use Rattle.mescjadro.specs.Rules.{freshBanks}
@@ -20,12 +21,12 @@ pub mescjadro-fresh-banks-spec : {M : Type 1} → statement M
 mescjadro-fresh-banks-spec =
     tie.close
     (tie.spec
-    (λ c κs. search needs)
+    (λ c κs. tt)
     returns
-    (λ c κs. search needs)
+    (λ c κs. tt)
     returns-2
-    (λ c κs. search needs)
-    (λ c κs. search needs)
+    (λ c κs. tt)
+    (λ c κs. tt)
     (λ c. search needs)
     (λ c. search needs)
     returns-3)

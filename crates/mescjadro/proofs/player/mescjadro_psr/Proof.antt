@@ -1,3 +1,4 @@
+-- A test of the length, then the read. Assumes nothing.
 use borrow.Author.Needs.{needs}
 use borrow.Author.Tests.{eq-eqb, ne-eqb}
 use Rattle.mescjadro.specs.Rules.{readCall}
@@ -15,4 +16,4 @@ returns-2 c = rw (eq-eqb _ _ (c .before .before .before .before .before .if1 .le
 pub mescjadro-psr-spec : {M : Type 1} → statement M
 mescjadro-psr-spec =
     tie.close
-    (tie.spec (λ c κs. search needs) returns (λ c κs. search needs) (λ c κs. search needs) (λ c. search needs) returns-2)
+    (tie.spec (λ c κs. tt) returns (λ c κs. tt) (λ c κs. search needs) (λ c. search needs) returns-2)

@@ -1,3 +1,4 @@
+-- What the write leaves, and its verdict's number. Assumes nothing.
 use borrow.Author.Needs.{needs}
 use Rattle.mescjadro.specs.Rules.{setCall}
 use Rattle.mescjadro.proofs.player.mescjadro_set_gpr.Statement.{statement}
@@ -9,4 +10,4 @@ returns c = rw (c .verdict-number .ensures, c .before .before .before .set-gpr .
 
 pub mescjadro-set-gpr-spec : {M : Type 1} → statement M
 mescjadro-set-gpr-spec =
-    tie.close (tie.spec (λ c κs. search needs) (λ c κs. search needs) (λ c. search needs) returns)
+    tie.close (tie.spec (λ c κs. tt) (λ c κs. tt) (λ c. search needs) returns)

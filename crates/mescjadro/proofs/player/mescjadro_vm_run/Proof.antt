@@ -1,3 +1,4 @@
+-- A test of the length, then the machine. Assumes nothing.
 use mathlib.Core.Path.{ap}
 use borrow.Author.Needs.{needs}
 use borrow.Author.Tests.{eq-eqb, ne-eqb}
@@ -17,9 +18,9 @@ pub mescjadro-vm-run-spec : {M : Type 1} → statement M
 mescjadro-vm-run-spec =
     tie.close
     (tie.spec
-    (λ c κs. search needs)
+    (λ c κs. tt)
     returns
-    (λ c κs. search needs)
+    (λ c κs. tt)
     (λ c κs. search needs)
     (λ c. search needs)
     (λ c. search needs)
