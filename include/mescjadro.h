@@ -15,8 +15,9 @@
  *  10 not an entry   an entry over 65,537, or an object that isn't on the disc
  *
  * An array is lent as a pointer and a length, in elements. What a call reads is const; what it may write must overlap
- * nothing else that is lent to the same call. A pointer must not be NULL, also where the length is 0. Nothing is kept
- * after a call, and nothing is allocated: calls on different arrays may run at the same time.
+ * nothing else that is lent to the same call. NULL with length 0 is an empty array; the pointers to a single number
+ * (length, pc) must not be NULL. Nothing is kept after a call, and nothing is allocated: calls on different arrays may run
+ * at the same time.
  *
  * Lengths that a comment gives as name[N] are tested: another length is refusal 6, before all else.
  */

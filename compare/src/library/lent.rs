@@ -17,6 +17,11 @@ impl Mark for usize {
     const MARK: usize = 0xa5a5_5a5a;
 }
 
+/// Where a slice stands; NULL, as C callers have it, if it is empty.
+pub fn place<T>(slice: &[T]) -> *const T {
+    if slice.is_empty() { std::ptr::null() } else { slice.as_ptr() }
+}
+
 const EDGE: usize = 4;
 
 #[derive(Clone)]
@@ -50,8 +55,9 @@ impl<T: Mark> Lent<T> {
         self.len() == 0
     }
 
+    /// Where it stands; NULL, as C callers have it, if it is empty.
     pub fn pointer(&mut self) -> *mut T {
-        self.all[EDGE..].as_mut_ptr()
+        if self.is_empty() { std::ptr::null_mut() } else { self.all[EDGE..].as_mut_ptr() }
     }
 
     /// What it holds; nothing beside it may have been written.

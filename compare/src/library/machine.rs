@@ -1,5 +1,5 @@
 //! The banks, the command machine and the drives on what they are lent.
-use super::lent::Lent;
+use super::lent::{Lent, place};
 use super::{Answer, numbers, raw};
 use crate::paper::drives::Call;
 
@@ -49,7 +49,7 @@ impl Banks {
     /// A step or a run of the machine from `pc` on, with room for so many numbers of an answer.
     pub fn obey(&mut self, run: bool, commands: &[u8], pc: &mut usize, budget: u32, room: usize) -> Answer<[u32; 5]> {
         let (gp, gl, pp, pl) = (self.gpr.pointer(), self.gpr.len(), self.psr.pointer(), self.psr.len());
-        let (cp, cl) = (commands.as_ptr(), commands.len());
+        let (cp, cl) = (place(commands), commands.len());
         numbers(room, |at, len| unsafe {
             if run {
                 raw::mescjadro_vm_run(gp, gl, pp, pl, cp, cl, pc, budget, at, len)
@@ -83,8 +83,8 @@ impl Lending {
         let Lending { banks: Banks { gpr, psr }, frames, titles, session } = self;
         let (gl, pl, fl, tl, sl) = (gpr.len(), psr.len(), frames.len(), titles.len(), session.len());
         let (g, p, f, t, s) = (gpr.pointer(), psr.pointer(), frames.pointer(), titles.pointer(), session.pointer());
-        let (ip, il, mp, ml) = (index.as_ptr(), index.len(), file.as_ptr(), file.len());
-        let (bp, bl) = (budgets.as_ptr(), budgets.len());
+        let (ip, il, mp, ml) = (place(index), index.len(), place(file), file.len());
+        let (bp, bl) = (place(budgets), budgets.len());
         numbers(room, |o, ol| unsafe {
             match call {
                 Call::RunnerRun(object) => {

@@ -6,7 +6,7 @@ pub mod raw;
 
 use crate::generate::commands::file_part;
 use crate::generate::discs::Disc;
-use lent::Lent;
+use lent::{Lent, place};
 
 /// A refusal's number, or the answer.
 pub type Answer<T> = Result<T, u32>;
@@ -42,12 +42,12 @@ fn bytes(room: usize, call: impl FnOnce(&mut [u8], &mut usize) -> u32) -> Answer
 }
 
 pub fn decode(command: &[u8], room: usize) -> Answer<[u32; 13]> {
-    numbers(room, |at, len| unsafe { raw::mescjadro_decode(command.as_ptr(), command.len(), at, len) })
+    numbers(room, |at, len| unsafe { raw::mescjadro_decode(place(command), command.len(), at, len) })
 }
 
 pub fn encode(command: &[u32], room: usize) -> Answer<Vec<u8>> {
     bytes(room, |out, length| unsafe {
-        let refusal = raw::mescjadro_encode(command.as_ptr(), command.len(), out.as_mut_ptr(), out.len());
+        let refusal = raw::mescjadro_encode(place(command), command.len(), out.as_mut_ptr(), out.len());
         if refusal == 0 {
             *length = 12;
         }
@@ -57,21 +57,21 @@ pub fn encode(command: &[u32], room: usize) -> Answer<Vec<u8>> {
 
 pub fn list_command(command: &[u8], room: usize) -> Answer<Vec<u8>> {
     bytes(room, |out, length| unsafe {
-        raw::mescjadro_list_command(command.as_ptr(), command.len(), out.as_mut_ptr(), out.len(), length)
+        raw::mescjadro_list_command(place(command), command.len(), out.as_mut_ptr(), out.len(), length)
     })
 }
 
 pub fn objects(file: &[u8], room: usize) -> Answer<[u32; 2]> {
-    numbers(room, |at, len| unsafe { raw::mescjadro_objects(file.as_ptr(), file.len(), at, len) })
+    numbers(room, |at, len| unsafe { raw::mescjadro_objects(place(file), file.len(), at, len) })
 }
 
 pub fn object(file: &[u8], object: u32, room: usize) -> Answer<[u32; 5]> {
-    numbers(room, |at, len| unsafe { raw::mescjadro_object(file.as_ptr(), file.len(), object, at, len) })
+    numbers(room, |at, len| unsafe { raw::mescjadro_object(place(file), file.len(), object, at, len) })
 }
 
 pub fn list_object(file: &[u8], object: u32, room: usize) -> Answer<Vec<u8>> {
     bytes(room, |out, length| unsafe {
-        raw::mescjadro_list_object(file.as_ptr(), file.len(), object, out.as_mut_ptr(), out.len(), length)
+        raw::mescjadro_list_object(place(file), file.len(), object, out.as_mut_ptr(), out.len(), length)
     })
 }
 
@@ -97,8 +97,8 @@ impl Objects {
     pub fn write(&self, out: &mut [u8], length: &mut usize) -> u32 {
         let (o, len) = (out.as_mut_ptr(), out.len());
         let Objects { version, flags, counts, commands } = self;
-        let (fp, fl, np, nl) = (flags.as_ptr(), flags.len(), counts.as_ptr(), counts.len());
-        let (cp, cl) = (commands.as_ptr(), commands.len());
+        let (fp, fl, np, nl) = (place(flags), flags.len(), place(counts), counts.len());
+        let (cp, cl) = (place(commands), commands.len());
         unsafe { raw::mescjadro_write_objects(*version, fp, fl, np, nl, cp, cl, o, len, length) }
     }
 }
@@ -108,15 +108,15 @@ pub fn write_objects(from: &Objects, room: usize) -> Answer<Vec<u8>> {
 }
 
 pub fn index(file: &[u8], room: usize) -> Answer<[u32; 6]> {
-    numbers(room, |at, len| unsafe { raw::mescjadro_index(file.as_ptr(), file.len(), at, len) })
+    numbers(room, |at, len| unsafe { raw::mescjadro_index(place(file), file.len(), at, len) })
 }
 
 pub fn entry(file: &[u8], entry: u32, room: usize) -> Answer<[u32; 8]> {
-    numbers(room, |at, len| unsafe { raw::mescjadro_entry(file.as_ptr(), file.len(), entry, at, len) })
+    numbers(room, |at, len| unsafe { raw::mescjadro_entry(place(file), file.len(), entry, at, len) })
 }
 
 pub fn resolve(file: &[u8], entry: u32, room: usize) -> Answer<[u32; 2]> {
-    numbers(room, |at, len| unsafe { raw::mescjadro_resolve(file.as_ptr(), file.len(), entry, at, len) })
+    numbers(room, |at, len| unsafe { raw::mescjadro_resolve(place(file), file.len(), entry, at, len) })
 }
 
 /// What the writer of index files is handed.
@@ -145,9 +145,9 @@ impl Index {
     pub fn write(&self, out: &mut [u8], length: &mut usize) -> u32 {
         let (o, len) = (out.as_mut_ptr(), out.len());
         let Index { version, app, kinds, playbacks, objects, names } = self;
-        let (ap, al, kp, kl) = (app.as_ptr(), app.len(), kinds.as_ptr(), kinds.len());
-        let (pp, pl, op, ol) = (playbacks.as_ptr(), playbacks.len(), objects.as_ptr(), objects.len());
-        let (np, nl) = (names.as_ptr(), names.len());
+        let (ap, al, kp, kl) = (place(app), app.len(), place(kinds), kinds.len());
+        let (pp, pl, op, ol) = (place(playbacks), playbacks.len(), place(objects), objects.len());
+        let (np, nl) = (place(names), names.len());
         unsafe { raw::mescjadro_write_index(*version, ap, al, kp, kl, pp, pl, op, ol, np, nl, o, len, length) }
     }
 }
@@ -157,6 +157,6 @@ pub fn write_index(from: &Index, room: usize) -> Answer<Vec<u8>> {
 }
 
 pub fn disc_check(index: &[u8], file: &[u8], room: usize) -> Answer<[u32; 3]> {
-    let (ip, il, fp, fl) = (index.as_ptr(), index.len(), file.as_ptr(), file.len());
+    let (ip, il, fp, fl) = (place(index), index.len(), place(file), file.len());
     numbers(room, |at, len| unsafe { raw::mescjadro_disc_check(ip, il, fp, fl, at, len) })
 }
