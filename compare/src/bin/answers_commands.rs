@@ -6,7 +6,7 @@
 //! value (4 bytes, big-endian); the listing's length and its bytes.
 use mescjadro_compare::bdmv::nav_command::{CommandGroup, DecodedCommand, Operand, Operation, RegisterBank};
 use mescjadro_compare::chance::Chance;
-use mescjadro_compare::numbers::SHEET;
+use mescjadro_compare::numbers::{SHEET, cleared};
 use std::io::Write;
 
 const INDICES: [u32; 10] = [0, 4, 48, 61, 127, 128, 255, 256, 999, 4095];
@@ -19,20 +19,6 @@ fn bytes(words: [u32; 3]) -> [u8; 12] {
         all[4 * i..4 * i + 4].copy_from_slice(&word.to_be_bytes());
     }
     all
-}
-
-/// The command with its ignored bits cleared, as the Rust's decoder shows which they are.
-fn cleared(command: [u8; 12]) -> [u8; 12] {
-    let decoded = DecodedCommand::decode(&command);
-    let mut bytes = command;
-    for bit in 0..96 {
-        let mut without = bytes;
-        without[bit / 8] &= !(0x80 >> (bit % 8));
-        if DecodedCommand::decode(&without) == decoded {
-            bytes = without;
-        }
-    }
-    bytes
 }
 
 fn operand(o: Option<Operand>, out: &mut Vec<u8>) {

@@ -13,10 +13,10 @@
 use mescjadro_compare::bdmv::index_bdmv::{AppInfoBdmv, IndexBdmv, IndexEntry, IndexObjectType, TitleEntry};
 use mescjadro_compare::bdmv::mobj_runner::{self, RunOutcome};
 use mescjadro_compare::bdmv::movie_object::{MovieObject, MovieObjects, NavCommand};
-use mescjadro_compare::bdmv::nav_command::Operation;
 use mescjadro_compare::bdmv::nav_driver::{self, DriveOutcome, NavDriver};
 use mescjadro_compare::bdmv::vm::{self, NavRequest, Registers};
 use mescjadro_compare::chance::Chance;
+use mescjadro_compare::numbers::system;
 use std::io::Write;
 
 const CASES: usize = 1200;
@@ -183,24 +183,6 @@ fn example_disc() -> Disc {
 
 // Answers in numbers.
 
-fn system(op: Operation) -> u16 {
-    match op {
-        Operation::SetStream => 1,
-        Operation::SetNvTimer => 2,
-        Operation::SetButtonPage => 3,
-        Operation::EnableButton => 4,
-        Operation::DisableButton => 5,
-        Operation::SetSecondaryStream => 6,
-        Operation::PopUpOff => 7,
-        Operation::StillOn => 8,
-        Operation::StillOff => 9,
-        Operation::SetOutputMode => 10,
-        Operation::SetStreamSS => 11,
-        Operation::Unknown { sub_grp, selector } => 1000 + 256 * sub_grp as u16 + selector as u16,
-        _ => 0,
-    }
-}
-
 type Answer = (u8, u32, u32, u16);
 
 fn of_request(request: NavRequest) -> Answer {
@@ -216,7 +198,7 @@ fn of_request(request: NavRequest) -> Answer {
         NavRequest::TerminatePlayList => (11, 0, 0, 0),
         NavRequest::LinkPlayItem { play_item } => (12, play_item, 0, 0),
         NavRequest::LinkMark { mark } => (13, mark, 0, 0),
-        NavRequest::SetSystem { op, operand1, operand2 } => (14, operand1, operand2, system(op)),
+        NavRequest::SetSystem { op, operand1, operand2 } => (14, operand1, operand2, system(op) as u16),
     }
 }
 

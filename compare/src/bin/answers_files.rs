@@ -87,7 +87,9 @@ fn answer_objects(file: &[u8], asked: &[u32]) -> Runs {
     runs.extend(asked.iter().map(|&n| (1, asked_object(objects, n))));
     if refusal[1] == 0 {
         let listing: String = objects.iter().enumerate().map(|(n, object)| object.disassemble(n) + "\n").collect();
-        for all in [objects.iter().flat_map(flags).collect(), objects.iter().flat_map(number).collect(), listing.into_bytes()] {
+        for all in
+            [objects.iter().flat_map(flags).collect(), objects.iter().flat_map(number).collect(), listing.into_bytes()]
+        {
             runs.push((1, measured(&all)));
         }
         runs.extend(written(&parsed.encode(), file));
@@ -100,7 +102,9 @@ fn said(object: &IndexObjectType) -> Vec<u8> {
         IndexObjectType::Hdmv { playback_type, movie_object_id_ref } => {
             [vec![1, *playback_type], movie_object_id_ref.to_be_bytes().to_vec()].concat()
         }
-        IndexObjectType::BdJ { playback_type, bdjo_file_name } => [vec![2, *playback_type], bdjo_file_name.as_bytes().to_vec()].concat(),
+        IndexObjectType::BdJ { playback_type, bdjo_file_name } => {
+            [vec![2, *playback_type], bdjo_file_name.as_bytes().to_vec()].concat()
+        }
     }
 }
 
@@ -112,7 +116,8 @@ fn asked_entry(index: &IndexBdmv, entry: u32) -> Vec<u8> {
         _ => return vec![10, 10],
     };
     let stands = index.entry(which).map_or(vec![0], |e| said(&e.object));
-    let leads = index.resolve_movie_object(which).map_or(vec![0], |object| [vec![1], object.to_be_bytes().to_vec()].concat());
+    let leads =
+        index.resolve_movie_object(which).map_or(vec![0], |object| [vec![1], object.to_be_bytes().to_vec()].concat());
     [stands, leads].concat()
 }
 
@@ -196,7 +201,8 @@ fn known_objects() -> Vec<Runs> {
     files.push(once(&[head(34, 1), vec![0x1F, 0xFF, 0, 1], command([u32::MAX; 3])].concat()));
     // What the writer leaves zero.
     let marked = |at: usize| {
-        let mut file = [head(78, 1), object(0x20, 3), [MOVE; 3].concat().iter().flat_map(|w| w.to_be_bytes()).collect()].concat();
+        let mut file =
+            [head(78, 1), object(0x20, 3), [MOVE; 3].concat().iter().flat_map(|w| w.to_be_bytes()).collect()].concat();
         file[at] = 1;
         once(&file)
     };
@@ -232,7 +238,9 @@ fn long_objects() -> Vec<Runs> {
 }
 
 fn random_command(chance: &mut Chance) -> Vec<u8> {
-    let register = |chance: &mut Chance| chance.one(&[0, 0x8000_0000, 0xC000_0000]) | chance.one(&[0, 5, 10, 48, 100, 127, 128, 4095]);
+    let register = |chance: &mut Chance| {
+        chance.one(&[0, 0x8000_0000, 0xC000_0000]) | chance.one(&[0, 5, 10, 48, 100, 127, 128, 4095])
+    };
     let words = match chance.below(4) {
         0 => [chance.word(), chance.word(), chance.word()],
         1 => [0x5000_0000 | chance.below(17) as u32, register(chance), register(chance)],
@@ -247,7 +255,9 @@ fn random_objects(chance: &mut Chance) -> Vec<u8> {
         resume_intention_flag: chance.below(2) as u8,
         menu_call_mask: chance.below(2) as u8,
         title_search_mask: chance.below(2) as u8,
-        commands: (0..chance.below(5)).map(|_| NavCommand { bytes: random_command(chance).try_into().unwrap() }).collect(),
+        commands: (0..chance.below(5))
+            .map(|_| NavCommand { bytes: random_command(chance).try_into().unwrap() })
+            .collect(),
     };
     let movie_objects = (0..chance.below(6)).map(|_| one(chance)).collect();
     MovieObjects { version: chance.word().to_be_bytes(), movie_objects }.encode()
@@ -282,9 +292,10 @@ fn index_case(file: Runs) -> Case {
 }
 
 const NAMES: [&[u8; 5]; 22] = [
-    b"00000", b"Title", b"\0\0\0\0\0", b"a\0b\0c", b"\x7F~ \t\n", b"aaaa\xC2", b"aaa\xC2\x80", b"a\xDF\xBF\xC3\xA9", b"\x80aaaa", b"\xC0\x80aaa",
-    b"\xC1\xBFaaa", b"\xE0\x80\x80aa", b"\xE0\xA0\x80aa", b"\xED\xA0\x80aa", b"\xED\x9F\xBFaa", b"\xEF\xBF\xBFaa", b"\xF0\x80\x80\x80a",
-    b"\xF0\x90\x80\x80a", b"\xF4\x90\x80\x80a", b"\xF4\x8F\xBF\xBFa", b"a\xF0\x9F\x98\x80", b"aa\xF0\x9F\x98",
+    b"00000", b"Title", b"\0\0\0\0\0", b"a\0b\0c", b"\x7F~ \t\n", b"aaaa\xC2", b"aaa\xC2\x80", b"a\xDF\xBF\xC3\xA9",
+    b"\x80aaaa", b"\xC0\x80aaa", b"\xC1\xBFaaa", b"\xE0\x80\x80aa", b"\xE0\xA0\x80aa", b"\xED\xA0\x80aa",
+    b"\xED\x9F\xBFaa", b"\xEF\xBF\xBFaa", b"\xF0\x80\x80\x80a", b"\xF0\x90\x80\x80a", b"\xF4\x90\x80\x80a",
+    b"\xF4\x8F\xBF\xBFa", b"a\xF0\x9F\x98\x80", b"aa\xF0\x9F\x98",
 ];
 
 /// The smallest files, with the Indexes inside the header, and those at its edges.
@@ -298,8 +309,17 @@ fn small_indexes() -> Vec<Runs> {
         file.truncate(size);
         once(&file)
     };
-    let mut files = vec![placed(8, 8, 46), placed(8, 8, 45), placed(12, 0, 46), placed(12, 30, 46), placed(12, 31, 46), placed(13, 0, 46)];
-    files.extend([(16, 46), (17, 46), (46, 75), (46, 76), (60, 90), (20, 106)].map(|(start, size)| placed(start, 0, size)));
+    let mut files = vec![
+        placed(8, 8, 46),
+        placed(8, 8, 45),
+        placed(12, 0, 46),
+        placed(12, 30, 46),
+        placed(12, 31, 46),
+        placed(13, 0, 46),
+    ];
+    files.extend(
+        [(16, 46), (17, 46), (46, 75), (46, 76), (60, 90), (20, 106)].map(|(start, size)| placed(start, 0, size)),
+    );
     for start in [0, 4, 30, 42, 43, 46, 47, 0x7FFF_FFFF, u32::MAX] {
         files.push(once(&index_head(start, 2)[..46]));
     }
@@ -308,10 +328,14 @@ fn small_indexes() -> Vec<Runs> {
 
 fn known_indexes() -> Vec<Runs> {
     let (one, two) = (hdmv(0, 7), hdmv(3, 65_535));
-    let plain = |titles: &[Vec<u8>]| [index_head(78, 34), indexes(26 + 12 * titles.len() as u32, &one, &two, titles)].concat();
+    let plain =
+        |titles: &[Vec<u8>]| [index_head(78, 34), indexes(26 + 12 * titles.len() as u32, &one, &two, titles)].concat();
     let base = plain(&[hdmv(1, 0), bdj(2, b"00001"), hdmv(0, 1)]);
     let mut files: Vec<Runs> = vec![once(b""), once(b"INDX"), once(b"INDX0200")];
-    files.extend([39, 40, 43, 44, 45, 46, 77, 78, 81, 82, 83, 93, 94, 95, 106, 107, 108, 109, 119, 120, 143].map(|n| once(&base[..n])));
+    files.extend(
+        [39, 40, 43, 44, 45, 46, 77, 78, 81, 82, 83, 93, 94, 95, 106, 107, 108, 109, 119, 120, 143]
+            .map(|n| once(&base[..n])),
+    );
     files.push(once(&base));
     files.push(once(&[base.clone(), vec![1, 2, 3]].concat()));
     files.push(once(&plain(&[])));
@@ -366,7 +390,8 @@ fn long_indexes() -> Vec<Runs> {
 fn random_index(chance: &mut Chance) -> Vec<u8> {
     let entry = |chance: &mut Chance| {
         let playback_type = chance.below(4) as u8;
-        let name = String::from_utf8(chance.one(&[NAMES[0], NAMES[2], NAMES[6], NAMES[12], NAMES[20]]).to_vec()).unwrap();
+        let name =
+            String::from_utf8(chance.one(&[NAMES[0], NAMES[2], NAMES[6], NAMES[12], NAMES[20]]).to_vec()).unwrap();
         let object = match chance.once_in(3) {
             true => IndexObjectType::BdJ { playback_type, bdjo_file_name: name },
             false => IndexObjectType::Hdmv { playback_type, movie_object_id_ref: chance.word() as u16 },

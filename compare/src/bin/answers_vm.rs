@@ -4,9 +4,9 @@
 //! status, number, value), the commands, calls (1, then 18 each: 0 a step or 1 a run, then the answer in five numbers), and
 //! the registers that then hold something else (2, then 7 each). All numbers are big-endian; the number of cases stands first.
 use mescjadro_compare::bdmv::movie_object::NavCommand;
-use mescjadro_compare::bdmv::nav_command::Operation;
 use mescjadro_compare::bdmv::vm::{HdmvVm, NavRequest, Step, probe};
 use mescjadro_compare::chance::Chance;
+use mescjadro_compare::numbers::system;
 use std::io::Write;
 
 const CASES: u16 = 1200;
@@ -57,24 +57,6 @@ fn command(c: &mut Chance, commands: usize) -> [u32; 3] {
     };
     let [a, b] = words(c);
     [head | rest, a, b]
-}
-
-fn system(op: Operation) -> u32 {
-    match op {
-        Operation::SetStream => 1,
-        Operation::SetNvTimer => 2,
-        Operation::SetButtonPage => 3,
-        Operation::EnableButton => 4,
-        Operation::DisableButton => 5,
-        Operation::SetSecondaryStream => 6,
-        Operation::PopUpOff => 7,
-        Operation::StillOn => 8,
-        Operation::StillOff => 9,
-        Operation::SetOutputMode => 10,
-        Operation::SetStreamSS => 11,
-        Operation::Unknown { sub_grp, selector } => 1000 + 256 * sub_grp as u32 + selector as u32,
-        _ => 0,
-    }
 }
 
 fn numbers(step: Step) -> [u32; 4] {

@@ -1,8 +1,8 @@
 //! What the program `drive` prints, from the Rust: a run from an entry and the resumes that answer it.
 //! Takes the two files and entry=N, steps=N, objects=N, titles=N, resumes=N, rN=V, pN=V, as `drive` does.
 use mescjadro_compare::bdmv::index_bdmv::{IndexBdmv, TitleEntry};
-use mescjadro_compare::bdmv::movie_object::MovieObjects;
 use mescjadro_compare::bdmv::mobj_runner;
+use mescjadro_compare::bdmv::movie_object::MovieObjects;
 use mescjadro_compare::bdmv::nav_command::Operation;
 use mescjadro_compare::bdmv::nav_driver::{DriveOutcome, NavDriver, PlayRequest, probe};
 use mescjadro_compare::bdmv::vm::NavRequest;

@@ -9,20 +9,6 @@ use mescjadro_compare::{library, numbers};
 /// Twelve bytes, decoded and listed.
 struct Command([u8; 12]);
 
-/// The command with its ignored bits cleared, as the Rust's decoder shows which they are.
-fn cleared(command: [u8; 12]) -> [u8; 12] {
-    let decoded = DecodedCommand::decode(&command);
-    let mut bytes = command;
-    for bit in 0..96 {
-        let mut without = bytes;
-        without[bit / 8] &= !(0x80 >> (bit % 8));
-        if DecodedCommand::decode(&without) == decoded {
-            bytes = without;
-        }
-    }
-    bytes
-}
-
 impl Case for Command {
     fn compare(&self) -> Compared {
         let decoded = DecodedCommand::decode(&self.0);
@@ -35,7 +21,7 @@ impl Case for Command {
             answers += same("listing", listed, Ok(line.clone()))?;
         }
         answers += same("listing one byte short", library::list_command(&self.0, length - 1), Err(NO_ROOM))?;
-        answers += same("encoded", library::encode(&fields, 12), Ok(cleared(self.0).to_vec()))?;
+        answers += same("encoded", library::encode(&fields, 12), Ok(numbers::cleared(self.0).to_vec()))?;
         Ok(answers + same("encoded one byte short", library::encode(&fields, 11), Err(NO_ROOM))?)
     }
 
