@@ -5,6 +5,7 @@ ghost use Rattle.error.specs.Rules.{numberOf as refusalNumber};
 ghost use Rattle.laws.specs.Firsts.{all};
 ghost use Rattle.nav_command.specs.Rules.{numberOf};
 ghost use Rattle.numbers.specs.Rules.{verdictNumber, flagNumber, pair, unknownOf, request, requestOf, stepNumbers, bare, bad, requesting, optionOf, playing, driveNumbers, runNumbers, checkNumbers, sessionNumbers, sessionOf, budgetNumbers, budgetsOf, groupPair, bankKind, operandPair, commandNumbers, groupNamed, operandNamed, sheetNamed, operationNamed, commandNamed, sameAt, isCommand};
+ghost use Rattle.numbers.specs.Apart.{ToldApart};
 ghost use Rattle.numbers.specs.Theorems.{NumbersNameCommands};
 use disc_check::DiscCheck;
 use error::Refusal;
@@ -526,4 +527,9 @@ pub fn is_command(numbers: &[u32]) -> bool
 // A command's numbers name it and no other, and what numbers name has those numbers, if they are a command's.
 pub fn numbers_name_commands()
     ensures { λ _. ⌜ NumbersNameCommands ⌝ }
+{}
+
+// Requests and outcomes that have the same numbers are equal.
+pub fn told_apart()
+    ensures { λ _. ⌜ ToldApart ⌝ }
 {}
