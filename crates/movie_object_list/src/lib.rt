@@ -16,6 +16,9 @@ ghost use Rattle.movie_object.specs.Rules.{verdictOf, headAt, headOf, commandsO
 ghost use Rattle.nav_list.specs.Rules.{listing, listOf};
 ghost use Rattle.movie_object_list.specs.Rules.{countText, headingText, prefixText, lineText, objectText, listedAs, listObject};
 
+// No line of an object is longer: its number takes at most 16 bytes, and a command's text 102.
+const LONGEST: usize = 118;
+
 // The text of object n from a place on, and the place after it.
 pub fn list(file: &[u8], n: u32, out: &mut [u8], at: usize) -> Listed
     ensures { λ r. ⌜ listing r (now (out .exit)) ≡ listObject (now (file .entry)) n (now (out .entry)) at ⌝ }
@@ -126,7 +129,11 @@ fn has_room(
     if room - at < heading {
         return false;
     }
-    lines_fit(classes, commands, lines, room - at - heading)
+    let left = room - at - heading;
+    if LONGEST * (lines as usize) <= left {
+        return true;
+    }
+    lines_fit(classes, commands, lines, left)
 }
 
 // Whether the lines are no longer than the room.
