@@ -17,7 +17,7 @@ pub extern "C" fn mescjadro_decode(command: &[u8], result: &mut [u32]) -> u32
         return hand::refused(Refusal::BadBuffer);
     }
     let bytes = hand::twelve(command);
-    let found = numbers::command_numbers(DecodedCommand::decode(&bytes));
+    let found = numbers::numbers_of(&bytes);
     hand::put(result, &found);
     0
 }

@@ -2,8 +2,8 @@
 -- number and values for every case, and the promises use that definition"). Assumes nothing.
 use mathlib.Core.Bool.{Bool, true, false, cond, not}
 use mathlib.Core.List.{List, [], _∷_, _++_, map}
-use Prim.Native.Nat.{ℕ, _-_, _%_}
-use lib.Dec.{eqb, leb}
+use Prim.Native.Nat.{ℕ, _+_, _-_, _%_}
+use lib.Dec.{eqb, leb, ltb}
 use lib.ListN.{getD}
 use Rattle.laws.specs.Firsts.{all}
 use Rattle.error.specs.Rules.{numberOf as refusalNumber}
@@ -38,6 +38,7 @@ use Rattle.session.specs.declared.Session.{Session}
 use Rattle.session.specs.declared.Budgets.{Budgets}
 use Rattle.session.specs.Rules.{session}
 use Rattle.numbers.specs.declared.Pair.{Pair}
+use Rattle.numbers.specs.declared.Place.{Place}
 use Rattle.numbers.specs.declared.Request.{Request}
 
 -- A test's answer: 0, or the refusal's number.
@@ -189,6 +190,20 @@ commandNumbers c =
     ∷ operandPair (c .operand2) .kind
     ∷ operandPair (c .operand2) .value
     ∷ []
+
+-- An operation's numbers together, and the places of the codes of a row on the sheet.
+
+abbrev pub place : ℕ → ℕ → ℕ → Place
+place n sub code = record { number = n; sub = sub; code = code }
+
+abbrev pub placeOf : Operation → Place
+placeOf op = place (numberOf op) (unknownOf op .kind) (unknownOf op .value)
+
+unfoldable pub rowPlace : ℕ → ℕ → ℕ → ℕ → ℕ → Place
+rowPlace at count first sub code = cond (ltb at count) (place (first + at) 0 0) (place 0 sub code)
+
+unfoldable pub codePlace : ℕ → ℕ → ℕ → ℕ → Place
+codePlace code count first sub = cond (eqb code 0) (place 0 sub code) (rowPlace (code - 1) count first sub code)
 
 -- The command that numbers name, each cut to its field's width.
 

@@ -1,10 +1,10 @@
 // The numbers of answers, of sessions and of decoded commands, as the C interface hands them out; the Rust has its enums alone.
 ghost use mathlib.Core.Path.{_≡_};
-ghost use Prim.Native.Nat.{_%_};
+ghost use Prim.Native.Nat.{_+_, _%_, _≤_};
 ghost use Rattle.error.specs.Rules.{numberOf as refusalNumber};
 ghost use Rattle.laws.specs.Firsts.{all};
-ghost use Rattle.nav_command.specs.Rules.{numberOf};
-ghost use Rattle.numbers.specs.Rules.{verdictNumber, flagNumber, pair, unknownOf, request, requestOf, stepNumbers, bare, bad, requesting, optionOf, playing, driveNumbers, runNumbers, checkNumbers, sessionNumbers, sessionOf, budgetNumbers, budgetsOf, groupPair, bankKind, operandPair, commandNumbers, groupNamed, operandNamed, sheetNamed, operationNamed, commandNamed, sameAt, isCommand};
+ghost use Rattle.nav_command.specs.Rules.{numberOf, branchOf, setOf, operationOf, groupOf, operandOf, commandOf};
+ghost use Rattle.numbers.specs.Rules.{verdictNumber, flagNumber, pair, unknownOf, request, requestOf, stepNumbers, bare, bad, requesting, optionOf, playing, driveNumbers, runNumbers, checkNumbers, sessionNumbers, sessionOf, budgetNumbers, budgetsOf, groupPair, place, placeOf, rowPlace, codePlace, bankKind, operandPair, commandNumbers, groupNamed, operandNamed, sheetNamed, operationNamed, commandNamed, sameAt, isCommand};
 ghost use Rattle.numbers.specs.Apart.{ToldApart};
 ghost use Rattle.numbers.specs.Theorems.{NumbersNameCommands};
 use disc_check::DiscCheck;
@@ -33,6 +33,13 @@ use vm::Step;
 pub struct Pair {
     pub kind: u32,
     pub value: u32,
+}
+
+// An operation: its place on the sheet, and the sub-group and code of one that has none.
+pub struct Place {
+    pub number: u32,
+    pub sub: u32,
+    pub code: u32,
 }
 
 // A request: its operation's place on the sheet, two operands, and the code of an unknown system request.
@@ -333,6 +340,152 @@ pub fn command_numbers(command: DecodedCommand) -> [u32; 13]
         number,
         unknown.kind,
         unknown.value,
+        a.kind,
+        a.value,
+        b.kind,
+        b.value,
+    ]
+}
+
+// Commands as they stand on a disc: the same numbers without the decoded record.
+
+fn place_of(number: u32) -> Place
+    ensures { λ r. ⌜ r ≡ place number 0 0 ⌝ }
+{
+    Place {
+        number,
+        sub: 0,
+        code: 0,
+    }
+}
+
+fn no_place(sub: u8, code: u8) -> Place
+    ensures { λ r. ⌜ r ≡ place 0 sub code ⌝ }
+{
+    Place {
+        number: 0,
+        sub: sub as u32,
+        code: code as u32,
+    }
+}
+
+// A row of `count` options from 0 on, whose first has the number `first`.
+fn from_zero(sub: u8, option: u8, count: u8, first: u8) -> Place
+    requires { ⌜ first + count ≤ 48 ⌝ }
+    ensures { λ r. ⌜ r ≡ rowPlace option count first sub option ⌝ }
+{
+    if option < count {
+        return place_of((first + option) as u32);
+    }
+    no_place(sub, option)
+}
+
+// A row of codes from 1 on.
+fn from_one(sub: u8, code: u8, count: u8, first: u8) -> Place
+    requires { ⌜ first + count ≤ 48 ⌝ }
+    ensures { λ r. ⌜ r ≡ codePlace code count first sub ⌝ }
+{
+    if code == 0 {
+        return no_place(sub, code);
+    }
+    if code - 1 < count {
+        return place_of((first + (code - 1)) as u32);
+    }
+    no_place(sub, code)
+}
+
+fn branch_at(sub: u8, option: u8) -> Place
+    ensures { λ r. ⌜ r ≡ placeOf (branchOf sub option) ⌝ }
+{
+    match sub {
+        0 => from_zero(0, option, 3, 1),
+        1 => from_zero(1, option, 5, 4),
+        2 => from_zero(2, option, 6, 9),
+        _ => no_place(sub, option),
+    }
+}
+
+fn set_at(sub: u8, code: u8) -> Place
+    ensures { λ r. ⌜ r ≡ placeOf (setOf sub code) ⌝ }
+{
+    match sub {
+        0 => from_one(0, code, 15, 22),
+        1 => from_one(1, code, 11, 37),
+        _ => no_place(sub, code),
+    }
+}
+
+fn operation_at(bits: u8, sub: u8, option: u8, compare: u8, set: u8) -> Place
+    ensures { λ r. ⌜ r ≡ placeOf (operationOf (groupOf bits) sub option compare set) ⌝ }
+{
+    match bits {
+        0 => branch_at(sub, option),
+        1 => from_one(sub, compare, 7, 15),
+        2 => set_at(sub, set),
+        _ => no_place(sub, set),
+    }
+}
+
+fn group_at(bits: u8) -> Pair
+    ensures { λ r. ⌜ r ≡ groupPair (groupOf bits) ⌝ }
+{
+    match bits {
+        0 => pair_of(0, 0),
+        1 => pair_of(1, 0),
+        2 => pair_of(2, 0),
+        _ => pair_of(3, bits as u32),
+    }
+}
+
+fn operand_at(there: bool, immediate: bool, word: u32) -> Pair
+    ensures { λ r. ⌜ r ≡ operandPair (operandOf there immediate word) ⌝ }
+{
+    if there {
+        if immediate {
+            return pair_of(1, word);
+        }
+        if word < 0x8000_0000 {
+            return pair_of(2, word % 4096);
+        }
+        if word < 0xC000_0000 {
+            return pair_of(3, word % 4096);
+        }
+        return pair_of(4, word % 4096);
+    }
+    pair_of(0, 0)
+}
+
+fn wide(byte: u8) -> u32
+    ensures { λ r. ⌜ r ≡ byte ⌝ }
+{
+    byte as u32
+}
+
+// The numbers of the command that twelve bytes are.
+pub fn numbers_of(bytes: &[u8; 12]) -> [u32; 13]
+    ensures { λ r. ⌜ r ≡ commandNumbers (commandOf (now (bytes .entry))) ⌝ }
+{
+    let head = bytes[0];
+    let flags = bytes[1];
+    let count = head / 32;
+    let bits = head / 8 % 4;
+    let sub = head % 8;
+    let immediate1 = flags / 128 == 1;
+    let immediate2 = flags / 64 % 2 == 1;
+    let group = group_at(bits);
+    let operation = operation_at(bits, sub, flags % 16, bytes[2], bytes[3]);
+    let a = operand_at(count >= 1, immediate1, common::be32(bytes, 4));
+    let b = operand_at(count >= 2, immediate2, common::be32(bytes, 8));
+    [
+        wide(count),
+        group.kind,
+        group.value,
+        wide(sub),
+        flag_number(immediate1),
+        flag_number(immediate2),
+        operation.number,
+        operation.sub,
+        operation.code,
         a.kind,
         a.value,
         b.kind,

@@ -1,4 +1,5 @@
 -- Two tests of lengths, then `decoded`. Assumes nothing.
+use mathlib.Core.Path.{refl}
 use borrow.Author.Needs.{needs}
 use borrow.Author.Tests.{eq-eqb, ne-eqb}
 use Rattle.mescjadro.specs.Rules.{decodeCall}
@@ -15,7 +16,7 @@ unfolding decodeCall
 returns-2 c = rw (eq-eqb _ _ (c .before .before .if1 .left), ne-eqb _ _ (c .before .if2 .taken), c .refused2 .ensures)
 
 returns-3 : tie.Need-returns-3
-returns-3 c = decoded _ _ _ (c .before .before .before .before .before .before .before .before .before .if2 .left) (c .before .before .before .before .before .before .before .before .twelve .ensures) (c .before .before .before .before .before .before .decode .ensures) _ _ _ (c .before .before .before .before .before .before .before .before .before .before .if1 .left) (c .before .before .before .before .before .command-numbers .ensures) (c .before .before .put .ensures)
+returns-3 c = decoded _ _ _ (c .before .before .before .before .before .before .before .before .if2 .left) (c .before .before .before .before .before .before .before .twelve .ensures) refl _ _ _ (c .before .before .before .before .before .before .before .before .before .if1 .left) (c .before .before .before .before .before .numbers-of .ensures) (c .before .before .put .ensures)
 
 pub mescjadro-decode-spec : {M : Type 1} → statement M
 mescjadro-decode-spec =
@@ -25,7 +26,6 @@ mescjadro-decode-spec =
     returns
     (λ c κs. search needs)
     returns-2
-    (λ c κs. search needs)
     (λ c κs. search needs)
     (λ c κs. search needs)
     (λ c. search needs)
