@@ -1,14 +1,14 @@
 -- What the calls leave, from the promises of what they call, in the order of the calls. Assumes nothing.
 use mathlib.Core.Path.{_≡_, refl, sym, ap, _∙_}
-use mathlib.Core.Bool.{Bool, true, false, cond, _&&_}
+use mathlib.Core.Bool.{Bool, true, false, cond}
 use mathlib.Core.List.{List, [], _∷_, _++_}
 use Prim.Native.Nat.{ℕ, _+_, _≤_, _<_}
 use native.Mathlib.Numerals.{add-one}
 use native.Mathlib.Omega.{arith}
-use lib.Dec.{eqb, ltb}
-use lib.ListN.{length, getD, set, take, replicate, replicate-append-replicate}
-use lib.Seq.{take-suc, take-suc-set, take-all}
-use borrow.Author.Tests.{eq-eqb, eqb-true, ltb-true}
+use lib.Dec.{ltb}
+use lib.ListN.{length, set, take, replicate, replicate-append-replicate}
+use lib.Seq.{take-suc-set, take-all}
+use borrow.Author.Tests.{eq-eqb, ltb-true}
 use Rattle.error.specs.declared.Refusal.the-variants.{NotAnEntry}
 use Rattle.error.specs.declared.Verdict.{Verdict}
 use Rattle.error.specs.declared.Verdict.the-variants.{Fine, Refused}
@@ -27,22 +27,11 @@ use Rattle.vm.specs.Rules.{Banks, banks, fetched}
 use Rattle.mobj_runner.specs.declared.RunAnswer.{RunAnswer}
 use Rattle.mobj_runner.specs.declared.Start.{Start as RunnerStart}
 use Rattle.mobj_runner.specs.Rules.{World, world, answerOf as runnerAnswer}
-use Rattle.nav_driver.specs.declared.DriveAnswer.{DriveAnswer}
-use Rattle.nav_driver.specs.declared.Start.{Start as DriverStart}
-use Rattle.nav_driver.specs.Rules.{Rooms, rooms, answerOf as driverAnswer}
 use Rattle.numbers.specs.Rules.{commandNumbers, sessionOf, budgetsOf}
-use Rattle.mescjadro.specs.Rules.{handed, size, measured, decodeCall, text, textBy, listCommandCall, banked, freshBanks, Ended, ended, lengthsFit, ranBy, runnerBy, runnerCall, droveBy, driverBy, driverCall}
+use Rattle.lent.specs.Rules.{Ended, ended, lengthsFit}
+use Rattle.mescjadro.specs.Rules.{handed, size, measured, decodeCall, text, textBy, listCommandCall, banked, freshBanks, ranBy, runnerBy, runnerCall}
 
--- ---- copying
-
--- a turn: one element more is that of the other list
-pub copied : (out from : List ℕ) (i : ℕ) → take i out ≡ take i from → i < length out → i < length from → take (i + 1) (set out i (getD from i 0)) ≡ take (i + 1) from
-copied out from i was h k =
-    rw (add-one i)
-    (take-suc-set out i (getD from i 0) h ∙ ap (λ (l : List ℕ). l ++ (getD from i 0 ∷ [])) was ∙ sym (take-suc from i 0 k))
-
-pub copied-all : (out from : List ℕ) (i : ℕ) → take i out ≡ take i from → length out ≤ i → length from ≤ i → out ≡ from
-copied-all out from i was h k = sym (take-all i out h) ∙ was ∙ take-all i from k
+-- ---- clearing
 
 pub cleared : (out : List ℕ) (i : ℕ) → take i out ≡ replicate i 0 → i < length out → take (i + 1) (set out i 0) ≡ replicate (i + 1) 0
 cleared out i was h =
@@ -100,18 +89,7 @@ fresh-made g p g′ p′ eg ep cg cp =
     (ap (λ (l : List ℕ). banked 0 (banks l p′)) (cg ∙ ap (λ (k : ℕ). replicate k 0) eg)
     ∙ ap (λ (l : List ℕ). banked 0 (banks (replicate 4096 0) l)) (cp ∙ ap (λ (k : ℕ). replicate k 0) ep))
 
--- ---- drives
-
-both : (a b : Bool) → a && b ≡ true → (a ≡ true) × (b ≡ true)
-both true b h = (refl, h)
-both false b h = let z : _≡_ {A = ℕ} 0 1 = cc in absurd (omega arith)
-
-pub fits-told : (b s o : List ℕ) → lengthsFit b s o ≡ true → (length s ≡ 6) × (length o ≡ 6)
-unfolding lengthsFit
-fits-told b s o h =
-    let two = both (eqb (length b) 3) (eqb (length s) 6 && eqb (length o) 6) h .1 in
-    let each = both (eqb (length s) 6) (eqb (length o) 6) two in
-    (eqb-true (length s) 6 (each .0), eqb-true (length o) 6 (each .1))
+-- ---- the runner
 
 module _ (b s o s′ o′ : List ℕ) (r : ℕ) (n : Session) (m : Budgets) (fit : lengthsFit b s o ≡ true) (isSession : n ≡ sessionOf s) (isBudgets : m ≡ budgetsOf b) where
   pub ran : (file titles : List ℕ) (start : RunnerStart) (a : RunAnswer) (g g′ : Banks) (f f′ : List ℕ) → world a g′ f′ ≡ runnerAnswer file m titles start (world n g f) → ended r s′ o′ ≡ ranBy a s o → world (ended r s′ o′) g′ f′ ≡ runnerCall file titles start b g f s o
@@ -122,19 +100,7 @@ module _ (b s o s′ o′ : List ℕ) (r : ℕ) (n : Session) (m : Budgets) (fit
       ∙ ap (λ (w : World RunAnswer). runnerBy w s o) run
       ∙ rw (isSession, isBudgets))
 
-  pub drove : (x file : List ℕ) (start : DriverStart) (a : DriveAnswer) (g g′ : Banks) (f f′ t t′ : List ℕ) → rooms a g′ f′ t′ ≡ driverAnswer x file m start (rooms n g f t) → ended r s′ o′ ≡ droveBy a s o → rooms (ended r s′ o′) g′ f′ t′ ≡ driverCall x file start b g f t s o
-  unfolding driverCall
-  drove x file start a g g′ f f′ t t′ run hand =
-      rw fit
-      (ap (λ (e : Ended). rooms e g′ f′ t′) hand
-      ∙ ap (λ (w : Rooms DriveAnswer). driverBy w s o) run
-      ∙ rw (isSession, isBudgets))
-
 module _ (b s o : List ℕ) (r : ℕ) (unfit : lengthsFit b s o ≡ false) (six : r ≡ 6) where
   pub ran-not : (file titles : List ℕ) (start : RunnerStart) (g : Banks) (f : List ℕ) → world (ended r s o) g f ≡ runnerCall file titles start b g f s o
   unfolding runnerCall
   ran-not file titles start g f = rw (unfit, six)
-
-  pub drove-not : (x file : List ℕ) (start : DriverStart) (g : Banks) (f t : List ℕ) → rooms (ended r s o) g f t ≡ driverCall x file start b g f t s o
-  unfolding driverCall
-  drove-not x file start g f t = rw (unfit, six)

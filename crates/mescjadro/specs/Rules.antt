@@ -1,6 +1,6 @@
--- What each call of the C interface hands back and what every lent array holds afterwards, in the numbers of the crate
+-- What each call of the C interface but the driver's hands back and what every lent array holds afterwards, in the numbers of the crate
 -- `numbers` and the rules of the layers below. A refusal hands back its number and leaves all as it was. Assumes nothing.
-use mathlib.Core.Bool.{Bool, cond, _&&_}
+use mathlib.Core.Bool.{cond, _&&_}
 use mathlib.Core.List.{List, [], _∷_}
 use Prim.Native.Nat.{ℕ, _+_}
 use lib.Dec.{eqb}
@@ -8,7 +8,7 @@ use lib.ListN.{length, getD, replicate}
 use Rattle.error.specs.Rules.{numberOf}
 use Rattle.error.specs.declared.Refusal.{Refusal}
 use Rattle.error.specs.declared.Refusal.the-variants.{BadBuffer, NotEncodable}
-use Rattle.numbers.specs.Rules.{verdictNumber, stepNumbers, driveNumbers, runNumbers, checkNumbers, sessionNumbers, sessionOf, budgetNumbers, budgetsOf, commandNumbers, commandNamed, isCommand}
+use Rattle.numbers.specs.Rules.{verdictNumber, stepNumbers, runNumbers, checkNumbers, sessionNumbers, sessionOf, budgetNumbers, budgetsOf, commandNumbers, commandNamed, isCommand}
 use Rattle.nav_command.specs.Rules.{commandOf}
 use Rattle.nav_encode.specs.Rules.{Encoding, encodeOf}
 use Rattle.nav_list.specs.Rules.{Listing, lineOf, listOf}
@@ -51,13 +51,10 @@ use Rattle.mobj_runner.specs.Rules.{World, world, answerOf as runnerAnswer}
 use Rattle.mobj_runner.specs.declared.Start.{Start as RunnerStart}
 use Rattle.mobj_runner.specs.declared.RunAnswer.{RunAnswer}
 use Rattle.mobj_runner.specs.declared.RunAnswer.the-variants as R
-use Rattle.nav_driver.specs.Rules.{Rooms, rooms, answerOf as driverAnswer}
-use Rattle.nav_driver.specs.declared.Start.{Start as DriverStart}
-use Rattle.nav_driver.specs.declared.DriveAnswer.{DriveAnswer}
-use Rattle.nav_driver.specs.declared.DriveAnswer.the-variants as D
 use Rattle.disc_check.specs.Rules.{checkOf}
 use Rattle.disc_check.specs.declared.DiscCheck.{DiscCheck}
 use Rattle.disc_check.specs.declared.DiscCheck.the-variants as C
+use Rattle.lent.specs.Rules.{sized, Ended, ended, lengthsFit}
 
 -- What a call hands back, and what one lent array then holds.
 pub record Handed : Type 0 where
@@ -69,9 +66,6 @@ handed n l = record { number = n; held = l }
 
 abbrev pub refused : Refusal → List ℕ → Handed
 refused r l = handed (numberOf r) l
-
-abbrev pub sized : ℕ → List ℕ → Bool
-sized n l = eqb (length l) n
 
 -- 6, before all else: an array that has not its length.
 abbrev pub into : ℕ → List ℕ → Handed → Handed
@@ -293,28 +287,11 @@ stepCall cs pc budget s l = machineInto s pc l (machineBy (stepAnswer cs pc budg
 unfoldable pub runCall : List ℕ → ℕ → ℕ → Banks → List ℕ → Machine
 runCall cs pc budget s l = machineInto s pc l (machineBy (runAnswer cs pc budget s) pc l)
 
--- ---- drives
-
--- What a drive hands back, and what the session's and the outcome's arrays then hold: both are written, or neither.
-pub record Ended : Type 0 where
-  pub number : ℕ
-  pub session : List ℕ
-  pub outcome : List ℕ
-
-abbrev pub ended : ℕ → List ℕ → List ℕ → Ended
-ended n s o = record { number = n; session = s; outcome = o }
+-- ---- the runner
 
 abbrev pub ranBy : RunAnswer → List ℕ → List ℕ → Ended
 ranBy (R.Ran e) s o = ended 0 (sessionNumbers (e .session)) (runNumbers (e .outcome))
 ranBy (R.Refused r) s o = ended (numberOf r) s o
-
-abbrev pub droveBy : DriveAnswer → List ℕ → List ℕ → Ended
-droveBy (D.Drove e) s o = ended 0 (sessionNumbers (e .session)) (driveNumbers (e .outcome))
-droveBy (D.Refused r) s o = ended (numberOf r) s o
-
--- three numbers of budgets, six of a session and six of an outcome
-unfoldable pub lengthsFit : List ℕ → List ℕ → List ℕ → Bool
-lengthsFit b s o = sized 3 b && (sized 6 s && sized 6 o)
 
 abbrev pub runnerBy : World RunAnswer → List ℕ → List ℕ → World Ended
 runnerBy w s o = world (ranBy (w .it) s o) (w .regs) (w .frames)
@@ -324,15 +301,6 @@ runnerCall file titles start b regs frames s o =
     cond (lengthsFit b s o)
     (runnerBy (runnerAnswer file (budgetsOf b) titles start (world (sessionOf s) regs frames)) s o)
     (world (ended (numberOf BadBuffer) s o) regs frames)
-
-abbrev pub driverBy : Rooms DriveAnswer → List ℕ → List ℕ → Rooms Ended
-driverBy w s o = rooms (droveBy (w .it) s o) (w .regs) (w .frames) (w .titles)
-
-unfoldable pub driverCall : List ℕ → List ℕ → DriverStart → List ℕ → Banks → List ℕ → List ℕ → List ℕ → List ℕ → Rooms Ended
-driverCall x file start b regs frames titles s o =
-    cond (lengthsFit b s o)
-    (driverBy (driverAnswer x file (budgetsOf b) start (rooms (sessionOf s) regs frames titles)) s o)
-    (rooms (ended (numberOf BadBuffer) s o) regs frames titles)
 
 -- ---- the disc check
 

@@ -11,14 +11,14 @@ pub extern "C" fn mescjadro_decode(command: &[u8], result: &mut [u32]) -> u32
     ensures { λ r. ⌜ handed r (now (result .exit)) ≡ decodeCall (now (command .entry)) (now (result .entry)) ⌝ }
 {
     if result.len() != 13 {
-        return hand::refused(Refusal::BadBuffer);
+        return lent::refused(Refusal::BadBuffer);
     }
     if command.len() != 12 {
-        return hand::refused(Refusal::BadBuffer);
+        return lent::refused(Refusal::BadBuffer);
     }
     let bytes = hand::twelve(command);
     let found = numbers::numbers_of(&bytes);
-    hand::put(result, &found);
+    lent::put(result, &found);
     0
 }
 
@@ -28,13 +28,13 @@ pub extern "C" fn mescjadro_encode(command: &[u32], out: &mut [u8]) -> u32
     ensures { λ r. ⌜ handed r (now (out .exit)) ≡ encodeCall (now (command .entry)) (now (out .entry)) ⌝ }
 {
     if command.len() != 13 {
-        return hand::refused(Refusal::BadBuffer);
+        return lent::refused(Refusal::BadBuffer);
     }
     if numbers::is_command(command) {
         let found = nav_encode::encode(numbers::command_named(command), out);
         return numbers::verdict_number(found);
     }
-    hand::refused(Refusal::NotEncodable)
+    lent::refused(Refusal::NotEncodable)
 }
 
 // The text of twelve bytes.
@@ -44,7 +44,7 @@ pub extern "C" fn mescjadro_list_command(command: &[u8], out: &mut [u8], count: 
         ≡ listCommandCall (now (command .entry)) (now (out .entry)) (now (count .entry)) ⌝ }
 {
     if command.len() != 12 {
-        return hand::refused(Refusal::BadBuffer);
+        return lent::refused(Refusal::BadBuffer);
     }
     let bytes = hand::twelve(command);
     let listed = nav_list::list(DecodedCommand::decode(&bytes), out, 0);

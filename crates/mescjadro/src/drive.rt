@@ -1,35 +1,15 @@
-// The runner, the driver and the disc check.
-use super::hand;
+// The runner and the disc check.
 use disc_check::DiscCheck;
 use error::Refusal;
 use mobj_runner::RunAnswer;
 use mobj_runner::RunEnd;
-use nav_driver::DriveAnswer;
-use nav_driver::DriveEnd;
-use session::Session;
 ghost use mathlib.Core.Path.{_≡_};
 ghost use lib.ListN.{length};
 ghost use Rattle.vm.specs.Rules.{banks};
-ghost use Rattle.numbers.specs.Rules.{sessionNumbers};
 ghost use Rattle.mobj_runner.specs.Rules.{world};
 ghost use Rattle.mobj_runner.specs.declared.Start.the-variants as runner;
-ghost use Rattle.nav_driver.specs.Rules.{rooms};
-ghost use Rattle.nav_driver.specs.declared.Start.the-variants as driver;
-ghost use Rattle.mescjadro.specs.Rules.{handed, ended, lengthsFit, ranBy, droveBy, runnerCall, driverCall, checkedBy, checkCall};
-
-fn lengths_fit(budgets: &[u32], session: &[u32], outcome: &[u32]) -> bool
-    ensures { λ r. ⌜ r ≡ lengthsFit (now (budgets .entry)) (now (session .entry)) (now (outcome .entry)) ⌝ }
-{
-    (budgets.len() == 3) & ((session.len() == 6) & (outcome.len() == 6))
-}
-
-fn put_session(s: Session, session: &mut [u32])
-    requires { ⌜ length (now session) ≡ 6 ⌝ }
-    ensures { λ _. ⌜ now (session .exit) ≡ sessionNumbers s ⌝ }
-{
-    let found = numbers::session_numbers(s);
-    hand::put(session, &found);
-}
+ghost use Rattle.lent.specs.Rules.{ended};
+ghost use Rattle.mescjadro.specs.Rules.{handed, ranBy, runnerCall, checkedBy, checkCall};
 
 // An outcome and the session that it leaves, or a refusal.
 fn hand_run(answer: RunAnswer, session: &mut [u32], outcome: &mut [u32]) -> u32
@@ -37,30 +17,13 @@ fn hand_run(answer: RunAnswer, session: &mut [u32], outcome: &mut [u32]) -> u32
     ensures { λ r. ⌜ ended r (now (session .exit)) (now (outcome .exit)) ≡ ranBy answer (now (session .entry)) (now (outcome .entry)) ⌝ }
 {
     match answer {
-        RunAnswer::Refused(why) => hand::refused(why),
+        RunAnswer::Refused(why) => lent::refused(why),
         RunAnswer::Ran(end) => {
             let how = end.outcome;
             let s = end.session;
             let found = numbers::run_numbers(how);
-            put_session(s, session);
-            hand::put(outcome, &found);
-            0
-        }
-    }
-}
-
-fn hand_drive(answer: DriveAnswer, session: &mut [u32], outcome: &mut [u32]) -> u32
-    requires { ⌜ (length (now session) ≡ 6) × (length (now outcome) ≡ 6) ⌝ }
-    ensures { λ r. ⌜ ended r (now (session .exit)) (now (outcome .exit)) ≡ droveBy answer (now (session .entry)) (now (outcome .entry)) ⌝ }
-{
-    match answer {
-        DriveAnswer::Refused(why) => hand::refused(why),
-        DriveAnswer::Drove(end) => {
-            let how = end.outcome;
-            let s = end.session;
-            let found = numbers::drive_numbers(how);
-            put_session(s, session);
-            hand::put(outcome, &found);
+            lent::put_session(s, session);
+            lent::put(outcome, &found);
             0
         }
     }
@@ -83,13 +46,13 @@ pub extern "C" fn mescjadro_runner_run(
         ≡ runnerCall (now (file .entry)) (now (titles .entry)) (runner.Object object) (now (budgets .entry))
         (banks (now (gpr .entry)) (now (psr .entry))) (now (frames .entry)) (now (session .entry)) (now (outcome .entry)) ⌝ }
 {
-    if lengths_fit(budgets, session, outcome) {
+    if lent::lengths_fit(budgets, session, outcome) {
         let s = numbers::session_of(session);
         let b = numbers::budgets_of(budgets);
         let answer = mobj_runner::run(gpr, psr, frames, titles, file, s, object, b);
         return hand_run(answer, session, outcome);
     }
-    hand::refused(Refusal::BadBuffer)
+    lent::refused(Refusal::BadBuffer)
 }
 
 // The runner goes on from where the session stands.
@@ -108,66 +71,13 @@ pub extern "C" fn mescjadro_runner_resume(
         ≡ runnerCall (now (file .entry)) (now (titles .entry)) runner.Here (now (budgets .entry))
         (banks (now (gpr .entry)) (now (psr .entry))) (now (frames .entry)) (now (session .entry)) (now (outcome .entry)) ⌝ }
 {
-    if lengths_fit(budgets, session, outcome) {
+    if lent::lengths_fit(budgets, session, outcome) {
         let s = numbers::session_of(session);
         let b = numbers::budgets_of(budgets);
         let answer = mobj_runner::resume(gpr, psr, frames, titles, file, s, b);
         return hand_run(answer, session, outcome);
     }
-    hand::refused(Refusal::BadBuffer)
-}
-
-// The driver starts an entry.
-#[no_mangle]
-pub extern "C" fn mescjadro_driver_run(
-    gpr: &mut [u32],
-    psr: &mut [u32],
-    frames: &mut [u32],
-    titles: &mut [u32],
-    index: &[u8],
-    file: &[u8],
-    entry: u32,
-    budgets: &[u32],
-    session: &mut [u32],
-    outcome: &mut [u32],
-) -> u32
-    ensures { λ r. ⌜ rooms (ended r (now (session .exit)) (now (outcome .exit))) (banks (now (gpr .exit)) (now (psr .exit))) (now (frames .exit)) (now (titles .exit))
-        ≡ driverCall (now (index .entry)) (now (file .entry)) (driver.Entry entry) (now (budgets .entry))
-        (banks (now (gpr .entry)) (now (psr .entry))) (now (frames .entry)) (now (titles .entry)) (now (session .entry)) (now (outcome .entry)) ⌝ }
-{
-    if lengths_fit(budgets, session, outcome) {
-        let s = numbers::session_of(session);
-        let b = numbers::budgets_of(budgets);
-        let answer = nav_driver::run(gpr, psr, frames, titles, index, file, s, entry, b);
-        return hand_drive(answer, session, outcome);
-    }
-    hand::refused(Refusal::BadBuffer)
-}
-
-// The driver goes on after the player has done what was asked.
-#[no_mangle]
-pub extern "C" fn mescjadro_driver_resume(
-    gpr: &mut [u32],
-    psr: &mut [u32],
-    frames: &mut [u32],
-    titles: &mut [u32],
-    index: &[u8],
-    file: &[u8],
-    budgets: &[u32],
-    session: &mut [u32],
-    outcome: &mut [u32],
-) -> u32
-    ensures { λ r. ⌜ rooms (ended r (now (session .exit)) (now (outcome .exit))) (banks (now (gpr .exit)) (now (psr .exit))) (now (frames .exit)) (now (titles .exit))
-        ≡ driverCall (now (index .entry)) (now (file .entry)) driver.Here (now (budgets .entry))
-        (banks (now (gpr .entry)) (now (psr .entry))) (now (frames .entry)) (now (titles .entry)) (now (session .entry)) (now (outcome .entry)) ⌝ }
-{
-    if lengths_fit(budgets, session, outcome) {
-        let s = numbers::session_of(session);
-        let b = numbers::budgets_of(budgets);
-        let answer = nav_driver::resume(gpr, psr, frames, titles, index, file, s, b);
-        return hand_drive(answer, session, outcome);
-    }
-    hand::refused(Refusal::BadBuffer)
+    lent::refused(Refusal::BadBuffer)
 }
 
 fn hand_check(found: DiscCheck, result: &mut [u32]) -> u32
@@ -175,16 +85,16 @@ fn hand_check(found: DiscCheck, result: &mut [u32]) -> u32
     ensures { λ r. ⌜ handed r (now (result .exit)) ≡ checkedBy found (now (result .entry)) ⌝ }
 {
     match found {
-        DiscCheck::Refused(why) => hand::refused(why),
+        DiscCheck::Refused(why) => lent::refused(why),
         DiscCheck::Passed => {
-            hand::put(result, &numbers::check_numbers(found));
+            lent::put(result, &numbers::check_numbers(found));
             0
         }
         DiscCheck::Offends {
             object: _,
             command: _,
         } => {
-            hand::put(result, &numbers::check_numbers(found));
+            lent::put(result, &numbers::check_numbers(found));
             0
         }
     }
@@ -196,7 +106,7 @@ pub extern "C" fn mescjadro_disc_check(index: &[u8], file: &[u8], result: &mut [
     ensures { λ r. ⌜ handed r (now (result .exit)) ≡ checkCall (now (index .entry)) (now (file .entry)) (now (result .entry)) ⌝ }
 {
     if result.len() != 3 {
-        return hand::refused(Refusal::BadBuffer);
+        return lent::refused(Refusal::BadBuffer);
     }
     hand_check(disc_check::check(index, file), result)
 }

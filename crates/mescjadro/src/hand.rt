@@ -8,24 +8,6 @@ ghost use Rattle.error.specs.Rules.{numberOf};
 ghost use Rattle.vm.specs.Rules.{fetched};
 ghost use Rattle.mescjadro.specs.Rules.{size, textBy};
 
-pub fn refused(why: Refusal) -> u32
-    ensures { λ r. ⌜ r ≡ numberOf why ⌝ }
-{
-    numbers::refusal_number(why)
-}
-
-// Numbers into an array that has room for just them.
-pub fn put(out: &mut [u32], from: &[u32])
-    requires { ⌜ length (now out) ≡ length (now from) ⌝ }
-    ensures { λ _. ⌜ now (out .exit) ≡ now (from .entry) ⌝ }
-{
-    let mut i = 0;
-    while i < from.len() {
-        out[i] = from[i];
-        i += 1;
-    }
-}
-
 // The first twelve bytes.
 pub fn twelve(bytes: &[u8]) -> [u8; 12]
     requires { ⌜ 12 ≤ length (now bytes) ⌝ }
@@ -52,7 +34,7 @@ pub fn hand_text(listed: Listed, count: &mut usize) -> u32
     ensures { λ r. ⌜ size r (now (count .exit)) ≡ textBy listed (now (count .entry)) ⌝ }
 {
     match listed {
-        Listed::Refused(why) => refused(why),
+        Listed::Refused(why) => lent::refused(why),
         Listed::At(end) => {
             *count = end;
             0

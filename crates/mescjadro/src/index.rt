@@ -1,5 +1,4 @@
 // index.bdmv: read, resolved, written.
-use super::hand;
 use common::byte_at;
 use error::Refusal;
 use index_bdmv::AppInfoBdmv;
@@ -34,15 +33,15 @@ pub extern "C" fn mescjadro_index(index: &[u8], result: &mut [u32]) -> u32
     ensures { λ r. ⌜ handed r (now (result .exit)) ≡ indexCall (now (index .entry)) (now (result .entry)) ⌝ }
 {
     if result.len() != 6 {
-        return hand::refused(Refusal::BadBuffer);
+        return lent::refused(Refusal::BadBuffer);
     }
     let parsed = IndexBdmv::parse(index);
     match parsed {
-        Parsed::Refused(why) => hand::refused(why),
+        Parsed::Refused(why) => lent::refused(why),
         Parsed::Read(read) => {
             let app = read.app_info;
             let found = index_numbers(read.version, app, read.titles);
-            hand::put(result, &found);
+            lent::put(result, &found);
             0
         }
     }
@@ -75,15 +74,15 @@ pub extern "C" fn mescjadro_entry(index: &[u8], entry: u32, result: &mut [u32]) 
     ensures { λ r. ⌜ handed r (now (result .exit)) ≡ entryCall (now (index .entry)) entry (now (result .entry)) ⌝ }
 {
     if result.len() != 8 {
-        return hand::refused(Refusal::BadBuffer);
+        return lent::refused(Refusal::BadBuffer);
     }
     let name = IndexBdmv::bdjo_file_name(index, entry);
     let asked = IndexBdmv::entry(index, entry);
     match asked {
-        IndexEntry::Refused(why) => hand::refused(why),
+        IndexEntry::Refused(why) => lent::refused(why),
         IndexEntry::Nothing => {
             let found = entry_numbers(0, 0, 0, name);
-            hand::put(result, &found);
+            lent::put(result, &found);
             0
         }
         IndexEntry::Object(object) => {
@@ -103,11 +102,11 @@ fn put_entry(object: IndexObjectType, name: &[u8], result: &mut [u32])
             movie_object_id_ref,
         } => {
             let found = entry_numbers(1, playback_type, movie_object_id_ref, name);
-            hand::put(result, &found);
+            lent::put(result, &found);
         }
         IndexObjectType::BdJ { playback_type } => {
             let found = entry_numbers(2, playback_type, 0, name);
-            hand::put(result, &found);
+            lent::put(result, &found);
         }
     }
 }
@@ -127,14 +126,14 @@ pub extern "C" fn mescjadro_resolve(index: &[u8], entry: u32, result: &mut [u32]
     ensures { λ r. ⌜ handed r (now (result .exit)) ≡ resolveCall (now (index .entry)) entry (now (result .entry)) ⌝ }
 {
     if result.len() != 2 {
-        return hand::refused(Refusal::BadBuffer);
+        return lent::refused(Refusal::BadBuffer);
     }
     let asked = IndexBdmv::resolve_movie_object(index, entry);
     match asked {
-        Resolved::Refused(why) => hand::refused(why),
+        Resolved::Refused(why) => lent::refused(why),
         Resolved::Leads(led) => {
             let found = lead_numbers(led);
-            hand::put(result, &found);
+            lent::put(result, &found);
             0
         }
     }
@@ -155,7 +154,7 @@ fn hand_file(written: Written, count: &mut usize) -> u32
     ensures { λ r. ⌜ size r (now (count .exit)) ≡ indexFileBy written (now (count .entry)) ⌝ }
 {
     match written {
-        Written::Refused(why) => hand::refused(why),
+        Written::Refused(why) => lent::refused(why),
         Written::Bytes(bytes) => {
             *count = bytes;
             0
@@ -179,7 +178,7 @@ pub extern "C" fn mescjadro_write_index(
         ≡ writeIndexCall version (now (app .entry)) (entries (now (kinds .entry)) (now (playbacks .entry)) (now (objects .entry)) (now (names .entry))) (now (out .entry)) (now (count .entry)) ⌝ }
 {
     if app.len() != 4 {
-        return hand::refused(Refusal::BadBuffer);
+        return lent::refused(Refusal::BadBuffer);
     }
     let written = index_bdmv_write::write(
         version,

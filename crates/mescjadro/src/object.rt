@@ -17,14 +17,14 @@ pub extern "C" fn mescjadro_objects(file: &[u8], result: &mut [u32]) -> u32
     ensures { λ r. ⌜ handed r (now (result .exit)) ≡ objectsCall (now (file .entry)) (now (result .entry)) ⌝ }
 {
     if result.len() != 2 {
-        return hand::refused(Refusal::BadBuffer);
+        return lent::refused(Refusal::BadBuffer);
     }
     let parsed = MovieObjects::parse(file);
     match parsed {
-        Parsed::Refused(why) => hand::refused(why),
+        Parsed::Refused(why) => lent::refused(why),
         Parsed::Read(objects) => {
             let found = [objects.version, objects.count as u32];
-            hand::put(result, &found);
+            lent::put(result, &found);
             0
         }
     }
@@ -36,11 +36,11 @@ pub extern "C" fn mescjadro_object(file: &[u8], object: u32, result: &mut [u32])
     ensures { λ r. ⌜ handed r (now (result .exit)) ≡ objectCall (now (file .entry)) object (now (result .entry)) ⌝ }
 {
     if result.len() != 5 {
-        return hand::refused(Refusal::BadBuffer);
+        return lent::refused(Refusal::BadBuffer);
     }
     let asked = MovieObjects::object(file, object);
     match asked {
-        Object::Refused(why) => hand::refused(why),
+        Object::Refused(why) => lent::refused(why),
         Object::Found(head) => {
             let at = movie_object::place_of(file, object);
             put_object(head, at, result);
@@ -60,7 +60,7 @@ fn put_object(head: MovieObject, at: usize, result: &mut [u32])
         head.commands as u32,
         (at + 4) as u32,
     ];
-    hand::put(result, &found);
+    lent::put(result, &found);
 }
 
 // The text of an object.
@@ -82,7 +82,7 @@ fn hand_file(written: Written, count: &mut usize) -> u32
     ensures { λ r. ⌜ size r (now (count .exit)) ≡ objectsFileBy written (now (count .entry)) ⌝ }
 {
     match written {
-        Written::Refused(why) => hand::refused(why),
+        Written::Refused(why) => lent::refused(why),
         Written::Bytes(bytes) => {
             *count = bytes;
             0

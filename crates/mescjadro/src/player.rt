@@ -1,5 +1,4 @@
 // Registers, sessions, budgets, and the command machine.
-use super::hand;
 use error::Refusal;
 use registers::Read;
 use registers::Registers;
@@ -28,10 +27,10 @@ pub extern "C" fn mescjadro_fresh_banks(gpr: &mut [u32], psr: &mut [u32]) -> u32
     ensures { λ r. ⌜ banked r (banks (now (gpr .exit)) (now (psr .exit))) ≡ freshBanks (now (gpr .entry)) (now (psr .entry)) ⌝ }
 {
     if gpr.len() != Registers::GPR_COUNT {
-        return hand::refused(Refusal::BadBuffer);
+        return lent::refused(Refusal::BadBuffer);
     }
     if psr.len() != Registers::PSR_COUNT {
-        return hand::refused(Refusal::BadBuffer);
+        return lent::refused(Refusal::BadBuffer);
     }
     clear(gpr);
     clear(psr);
@@ -43,10 +42,10 @@ pub extern "C" fn mescjadro_fresh_session(session: &mut [u32]) -> u32
     ensures { λ r. ⌜ handed r (now (session .exit)) ≡ freshSession (now (session .entry)) ⌝ }
 {
     if session.len() != 6 {
-        return hand::refused(Refusal::BadBuffer);
+        return lent::refused(Refusal::BadBuffer);
     }
     let fresh = numbers::session_numbers(Session::new());
-    hand::put(session, &fresh);
+    lent::put(session, &fresh);
     0
 }
 
@@ -55,10 +54,10 @@ pub extern "C" fn mescjadro_default_budgets(budgets: &mut [u32]) -> u32
     ensures { λ r. ⌜ handed r (now (budgets .exit)) ≡ defaultBudgets (now (budgets .entry)) ⌝ }
 {
     if budgets.len() != 3 {
-        return hand::refused(Refusal::BadBuffer);
+        return lent::refused(Refusal::BadBuffer);
     }
     let most = numbers::budget_numbers(Budgets::new());
-    hand::put(budgets, &most);
+    lent::put(budgets, &most);
     0
 }
 
@@ -67,15 +66,15 @@ fn hand_read(read: Read, result: &mut [u32]) -> u32
     ensures { λ r. ⌜ handed r (now (result .exit)) ≡ readBy read (now (result .entry)) ⌝ }
 {
     match read {
-        Read::Refused(why) => hand::refused(why),
+        Read::Refused(why) => lent::refused(why),
         Read::NoRegister => {
             let found = [0, 0];
-            hand::put(result, &found);
+            lent::put(result, &found);
             0
         }
         Read::Value(value) => {
             let found = [1, value];
-            hand::put(result, &found);
+            lent::put(result, &found);
             0
         }
     }
@@ -87,7 +86,7 @@ pub extern "C" fn mescjadro_gpr(gpr: &[u32], number: u16, result: &mut [u32]) ->
     ensures { λ r. ⌜ handed r (now (result .exit)) ≡ readCall 4096 (now (gpr .entry)) number (now (result .entry)) ⌝ }
 {
     if result.len() != 2 {
-        return hand::refused(Refusal::BadBuffer);
+        return lent::refused(Refusal::BadBuffer);
     }
     hand_read(Registers::gpr(gpr, number), result)
 }
@@ -98,7 +97,7 @@ pub extern "C" fn mescjadro_psr(psr: &[u32], number: u16, result: &mut [u32]) ->
     ensures { λ r. ⌜ handed r (now (result .exit)) ≡ readCall 128 (now (psr .entry)) number (now (result .entry)) ⌝ }
 {
     if result.len() != 2 {
-        return hand::refused(Refusal::BadBuffer);
+        return lent::refused(Refusal::BadBuffer);
     }
     hand_read(Registers::psr(psr, number), result)
 }
@@ -122,12 +121,12 @@ fn hand_step(found: Answer, pc: &mut usize, answer: &mut [u32]) -> u32
     ensures { λ r. ⌜ told r (now (pc .exit)) (now (answer .exit)) ≡ toldBy found (now (pc .entry)) (now (answer .entry)) ⌝ }
 {
     match found {
-        Answer::Refused(why) => hand::refused(why),
+        Answer::Refused(why) => lent::refused(why),
         Answer::Done(stepped) => {
             let step = stepped.step;
             let told = numbers::step_numbers(step);
             *pc = stepped.pc;
-            hand::put(answer, &told);
+            lent::put(answer, &told);
             0
         }
     }
@@ -147,7 +146,7 @@ pub extern "C" fn mescjadro_vm_step(
         ≡ stepCall (now (commands .entry)) (now (pc .entry)) budget (banks (now (gpr .entry)) (now (psr .entry))) (now (answer .entry)) ⌝ }
 {
     if answer.len() != 5 {
-        return hand::refused(Refusal::BadBuffer);
+        return lent::refused(Refusal::BadBuffer);
     }
     let vm = HdmvVm { pc: *pc, budget };
     hand_step(vm.step(gpr, psr, commands), pc, answer)
@@ -167,7 +166,7 @@ pub extern "C" fn mescjadro_vm_run(
         ≡ runCall (now (commands .entry)) (now (pc .entry)) budget (banks (now (gpr .entry)) (now (psr .entry))) (now (answer .entry)) ⌝ }
 {
     if answer.len() != 5 {
-        return hand::refused(Refusal::BadBuffer);
+        return lent::refused(Refusal::BadBuffer);
     }
     let vm = HdmvVm { pc: *pc, budget };
     hand_step(vm.run(gpr, psr, commands), pc, answer)

@@ -35,10 +35,10 @@ fn decode_row(table: &mut Table, what: &str, commands: &Commands) {
         }
     };
     let ours = || {
+        let mut numbers = [0; 13];
         for command in commands {
-            let mut numbers = [0; 13];
             unsafe { raw::mescjadro_decode(black_box(command).as_ptr(), 12, numbers.as_mut_ptr(), 13) };
-            black_box(numbers);
+            black_box(&numbers);
         }
     };
     table.both(what, COMMANDS, Some(1.0), Box::new(theirs), Box::new(ours));
@@ -48,10 +48,10 @@ fn encode_row(table: &mut Table, what: &str, commands: &Commands) {
     let decoded: Vec<[u32; 13]> =
         commands.iter().map(|command| numbers::decoded(&DecodedCommand::decode(command))).collect();
     let ours = || {
+        let mut out = [0; 12];
         for numbers in &decoded {
-            let mut out = [0; 12];
             unsafe { raw::mescjadro_encode(black_box(numbers).as_ptr(), 13, out.as_mut_ptr(), 12) };
-            black_box(out);
+            black_box(&out);
         }
     };
     table.ours(what, COMMANDS, Box::new(ours));

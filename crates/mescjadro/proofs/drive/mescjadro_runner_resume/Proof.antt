@@ -1,7 +1,8 @@
 -- Lengths that fit lead to the runner (`ran`), others to refusal 6 (`ran-not`). Assumes nothing.
 use mathlib.Core.Path.{sym, _∙_}
 use borrow.Author.Needs.{needs}
-use Rattle.mescjadro.proofs.Laws.{fits-told, ran, ran-not}
+use Rattle.mescjadro.proofs.Laws.{ran, ran-not}
+use Rattle.lent.specs.Laws.{fits-told}
 use Rattle.mescjadro.proofs.drive.mescjadro_runner_resume.Statement.{statement}
 use Rattle.mescjadro.proofs.drive.mescjadro_runner_resume.Tie as tie
 

@@ -3,10 +3,10 @@ use mathlib.Core.Path.{_≡_, refl}
 use Prim.Native.Nat.{_-_, _≤_}
 use native.Mathlib.Omega.{arith}
 use lib.ListN.{length, take, length-set}
-use Rattle.mescjadro.proofs.Laws.{copied, copied-all}
+use Rattle.lent.proofs.Laws.{copied, copied-all}
 use denote.Ref.{now}
-use Rattle.mescjadro.proofs.hand.put.Statement.{statement}
-use Rattle.mescjadro.proofs.hand.put.Tie as tie
+use Rattle.lent.proofs.put.Statement.{statement}
+use Rattle.lent.proofs.put.Tie as tie
 
 abbrev Inv-loop : tie.InvT-loop
 Inv-loop out₀ from i₀ out i = (i ≤ length from) × (length out ≡ length out₀) × (take i out ≡ take i from)

@@ -1,7 +1,7 @@
 -- A refusal writes nothing; an end writes session and outcome. Assumes nothing.
 use borrow.Author.Needs.{needs}
-use Rattle.mescjadro.proofs.drive.hand_drive.Statement.{statement}
-use Rattle.mescjadro.proofs.drive.hand_drive.Tie as tie
+use Rattle.mescjadro_driver.proofs.hand_drive.Statement.{statement}
+use Rattle.mescjadro_driver.proofs.hand_drive.Tie as tie
 
 returns : tie.Need-returns
 returns c = rw (c .before .before .answer .given .1, c .refused .ensures)

@@ -1,8 +1,8 @@
 -- The three tests as the rule has them. Assumes nothing.
 use mathlib.Core.Path.{refl}
-use Rattle.mescjadro.specs.Rules.{lengthsFit}
-use Rattle.mescjadro.proofs.drive.lengths_fit.Statement.{statement}
-use Rattle.mescjadro.proofs.drive.lengths_fit.Tie as tie
+use Rattle.lent.specs.Rules.{lengthsFit}
+use Rattle.lent.proofs.lengths_fit.Statement.{statement}
+use Rattle.lent.proofs.lengths_fit.Tie as tie
 
 returns : tie.Need-returns
 unfolding lengthsFit
