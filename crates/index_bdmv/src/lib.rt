@@ -258,6 +258,7 @@ fn parse_object(index: &[u8], entry: Reader) -> Moved
 
 // The object that an entry leads to; first playback, top menu and titles alike.
 pub fn resolve(index: &[u8], entry: u32) -> Lead
+    requires { ⌜ verdictOf (now index) ≡ Fine ⌝ }
     ensures { λ r. ⌜ r ≡ resolveOf (now (index .entry)) entry ⌝ }
 {
     let place = place_of(index, entry);
