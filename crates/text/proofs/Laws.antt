@@ -3,7 +3,7 @@ use mathlib.Core.Path.{_≡_, refl, sym, ap, _∙_}
 use mathlib.Core.Bool.{Bool, true, false, cond}
 use mathlib.Core.List.{List, [], _∷_, _++_}
 use Prim.Native.Nat.{ℕ, zero, suc, _+_, _-_, _/_, _%_, _^_, _≤_, _<_}
-use native.Mathlib.Nat.{add-zero, mod-eq-of-lt, pow-suc, pow-le-pow-right, le-refl, le-trans, lt-of-le-of-lt, div-le-self, le-div-iff-mul-le, div-lt-iff-lt-mul}
+use native.Mathlib.Nat.{add-zero, mod-eq-of-lt, pow-le-pow-left, le-refl, le-trans, lt-of-lt-of-le, lt-of-le-of-lt, div-le-self}
 use native.Mathlib.Numerals.{add-one}
 use native.Mathlib.Omega.{arith}
 use lib.Dec.{ltb}
@@ -11,7 +11,7 @@ use lib.ListN.{length, take, drop, getD, set, length-append, length-set, drop-of
 use lib.Seq.{sets, sets-eq, set-comm, set-out, take-suc, take-all, take-at, drop-at, drop-cons, length-take-le}
 use borrow.Author.Tests.{ltb-true}
 use Rattle.text.specs.Rules.{glyphOf, numeral, numeralIn, blanks, rightIn, place, Wrote}
-use Rattle.text.specs.Laws.{near, then, sets-append, one-digit, more-digits, less, power-one}
+use Rattle.text.specs.Laws.{near, then, sets-append, one-digit, more-digits, few-digits, less}
 
 -- a text that ends inside the room
 pub wrote : {l l′ t : List ℕ} {at r : ℕ} → length l < 2 ^ 64 → at + length t ≤ length l → l′ ≡ sets l at t → r ≡ at + length t → Wrote l at t l′ r
@@ -56,19 +56,23 @@ blanked i a b = rw (blanks-more i) (then a b)
 
 -- how many digits a number has
 
-pub digits-1 : (base n : ℕ) → n < base → 1 ≡ length (numeral base n)
-digits-1 base n h = rw (one-digit base n h)
+pub at-most : (base n : ℕ) → 1 < base → n < 2 ^ 32 → length (numeral base n) ≤ 32
+at-most base n b h = few-digits 31 base n b h (lt-of-lt-of-le h (pow-le-pow-left b 32))
 
-pub digits : (k base n : ℕ) → 1 < base → n < 2 ^ 32 → base ^ k ≤ n → n < base ^ suc k → suc k ≡ length (numeral base n)
-digits zero base n b h low high = digits-1 base n (rw (power-one base) at high)
-digits (suc k) base n b h low high =
-    let pos : 0 < base = omega arith in
-    let one : base ≤ n = le-trans (rw (power-one base) at (pow-le-pow-right pos {i = 1} {j = suc k} (omega arith))) low in
-    let l : base ^ k ≤ n / base = le-div-iff-mul-le pos .1 (rw (pow-suc base k) at low) in
-    let g : n / base < base ^ suc k = div-lt-iff-lt-mul pos .1 (rw (pow-suc base (suc k)) at high) in
-    let s : n / base < 2 ^ 32 = lt-of-le-of-lt (div-le-self n base) h in
-    rw (more-digits base n b h one, length-append (numeral base (n / base)) (glyphOf (n % base) ∷ []))
-    (omega (arith, digits k base (n / base) b s l g))
+-- What the loop that counts them keeps: those counted and those of what is left are one more than all.
+pub record Counting (base n count left : ℕ) : Type 0 where
+  pub inside : left ≤ n
+  pub both : count + length (numeral base left) ≡ length (numeral base n) + 1
+
+pub count-on : {base n count left : ℕ} → 1 < base → n < 2 ^ 32 → base ≤ left → Counting base n count left → Counting base n (count + 1) (left / base)
+count-on {base} {n} {count} {left} b h g c =
+    let fits : left < 2 ^ 32 = lt-of-le-of-lt (c .inside) h in
+    let one : length (numeral base left) ≡ length (numeral base (left / base)) + 1 =
+    ap length (more-digits base left b fits g) ∙ length-append (numeral base (left / base)) (glyphOf (left % base) ∷ []) in
+    record { inside = le-trans (div-le-self left base) (c .inside); both = omega (arith, c .both) }
+
+pub count-ends : {base n count left : ℕ} → left < base → Counting base n count left → count ≡ length (numeral base n)
+count-ends {base} {left = left} h c = let one : length (numeral base left) ≡ 1 = ap length (one-digit base left h) in omega (arith, c .both)
 
 -- the k last digits of a number
 

@@ -109,7 +109,7 @@ digits-by true k base n e b h g = rw (one-digit base n (ltb-true n base e)) (ome
 digits-by false k base n e b h g =
     rw (more-digits base n b h (ltb-false n base e), length-append (numeral base (n / base)) (glyphOf (n % base) ∷ [])) (omega arith)
 
-pub power-one : (base : ℕ) → base ^ 1 ≡ base
+power-one : (base : ℕ) → base ^ 1 ≡ base
 power-one base = pow-suc base 0 ∙ ap (λ (x : ℕ). x * base) (pow-zero base) ∙ one-mul base
 
 pub few-digits : (k base n : ℕ) → 1 < base → n < 2 ^ 32 → n < base ^ suc k → length (numeral base n) ≤ suc k

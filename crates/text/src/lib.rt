@@ -85,106 +85,63 @@ fn glyph(digit: u32) -> u8
     }
 }
 
-fn decimal_digits(n: u16) -> usize
-    ensures { λ r. ⌜ (r ≡ length (numeral 10 n)) × (r ≤ 5) ⌝ }
+// How many digits a number has in a base.
+fn digits(base: u32, n: u32) -> usize
+    requires { ⌜ 1 < base ⌝ }
+    ensures { λ r. ⌜ (r ≡ length (numeral base n)) × (r ≤ 32) ⌝ }
 {
-    if n < 10 {
-        return 1;
+    let mut count = 1;
+    let mut left = n;
+    while base <= left {
+        left = left / base;
+        count += 1;
     }
-    if n < 100 {
-        return 2;
-    }
-    if n < 1000 {
-        return 3;
-    }
-    if n < 10000 {
-        return 4;
-    }
-    5
+    count
 }
 
-fn hex_digits(n: u32) -> usize
-    ensures { λ r. ⌜ (r ≡ length (numeral 16 n)) × (r ≤ 8) ⌝ }
-{
-    if n < 0x10 {
-        return 1;
-    }
-    if n < 0x100 {
-        return 2;
-    }
-    if n < 0x1000 {
-        return 3;
-    }
-    if n < 0x1_0000 {
-        return 4;
-    }
-    if n < 0x10_0000 {
-        return 5;
-    }
-    if n < 0x100_0000 {
-        return 6;
-    }
-    if n < 0x1000_0000 {
-        return 7;
-    }
-    8
-}
-
-// The digits from the last to the first; a base of its own for each, so that no division is by a variable.
-fn fill_decimal(out: &mut [u8], at: usize, count: usize, n: u32)
-    requires { ⌜ count ≡ length (numeral 10 n) ⌝ }
+// The digits from the last to the first.
+fn fill(out: &mut [u8], at: usize, count: usize, base: u32, n: u32)
+    requires { ⌜ (1 < base) × (base ≤ 16) ⌝ }
+    requires { ⌜ count ≡ length (numeral base n) ⌝ }
     requires { ⌜ at + count ≤ length (now out) ⌝ }
-    ensures { λ _. ⌜ now (out .exit) ≡ sets (now (out .entry)) at (numeral 10 n) ⌝ }
+    ensures { λ _. ⌜ now (out .exit) ≡ sets (now (out .entry)) at (numeral base n) ⌝ }
 {
     let mut k = count;
     let mut left = n;
     while 0 < k {
         k -= 1;
-        out[at + k] = glyph(left % 10);
-        left = left / 10;
+        out[at + k] = glyph(left % base);
+        left = left / base;
     }
 }
 
-fn fill_hex(out: &mut [u8], at: usize, count: usize, n: u32)
-    requires { ⌜ count ≡ length (numeral 16 n) ⌝ }
-    requires { ⌜ at + count ≤ length (now out) ⌝ }
-    ensures { λ _. ⌜ now (out .exit) ≡ sets (now (out .entry)) at (numeral 16 n) ⌝ }
+// A number in a base, straight into the room where it fits.
+fn put_numeral(out: &mut [u8], at: usize, base: u32, n: u32) -> usize
+    requires { ⌜ (1 < base) × (base ≤ 16) ⌝ }
+    ensures { λ r. ⌜ Wrote (now (out .entry)) at (numeral base n) (now (out .exit)) r ⌝ }
 {
-    let mut k = count;
-    let mut left = n;
-    while 0 < k {
-        k -= 1;
-        out[at + k] = glyph(left % 16);
-        left = left / 16;
+    let count = digits(base, n);
+    if has_room(out.len(), at, count) {
+        fill(out, at, count, base, n);
+        return at + count;
     }
+    let mut glyphs = [0u8; 32];
+    fill(&mut glyphs, 0, count, base, n);
+    put_tested(out, at, &glyphs[..count])
 }
 
 // A number in decimal.
 pub fn put_decimal(out: &mut [u8], at: usize, n: u16) -> usize
     ensures { λ r. ⌜ Wrote (now (out .entry)) at (numeral 10 n) (now (out .exit)) r ⌝ }
 {
-    let count = decimal_digits(n);
-    if has_room(out.len(), at, count) {
-        fill_decimal(out, at, count, n as u32);
-        return at + count;
-    }
-    let mut digits = [0u8; 5];
-    fill_decimal(&mut digits, 0, count, n as u32);
-    put_tested(out, at, &digits[..count])
+    put_numeral(out, at, 10, n as u32)
 }
 
 // A number in upper-case hex.
 pub fn put_hex(out: &mut [u8], at: usize, n: u32) -> usize
     ensures { λ r. ⌜ Wrote (now (out .entry)) at (numeral 16 n) (now (out .exit)) r ⌝ }
 {
-    let count = hex_digits(n);
-    if has_room(out.len(), at, count) {
-        fill_hex(out, at, count, n);
-        return at + count;
-    }
-    let mut digits = [0u8; 8];
-    fill_hex(&mut digits, 0, count, n);
-    put_tested(out, at, &digits[..count])
+    put_numeral(out, at, 16, n)
 }
 
 fn put_blanks(out: &mut [u8], at: usize, count: usize) -> usize
@@ -203,7 +160,7 @@ fn put_blanks(out: &mut [u8], at: usize, count: usize) -> usize
 pub fn put_right(out: &mut [u8], at: usize, n: u16, width: usize) -> usize
     ensures { λ r. ⌜ Wrote (now (out .entry)) at (rightIn width (numeral 10 n)) (now (out .exit)) r ⌝ }
 {
-    let count = decimal_digits(n);
+    let count = digits(10, n as u32);
     if count < width {
         let p = put_blanks(out, at, width - count);
         return put_decimal(out, p, n);
