@@ -18,7 +18,7 @@ use Rattle.nav_command.specs.declared.RegisterBank.the-variants.{Gpr, Psr, PsrS
 use Rattle.registers.specs.declared.Effect.{Effect}
 use Rattle.registers.specs.declared.Effect.the-variants.{Write, Swap, Nothing}
 use Rattle.registers.specs.declared.Raw.{Raw}
-use Rattle.registers.specs.Rules.{Banks, banks, names, valueOf, writtenStatus, written, effectFor, applied, setOf, meant}
+use Rattle.registers.specs.Rules.{Banks, banks, names, valueOf, writtenStatus, written, effectFor, applied, setOf, appliedIn, setIn, meant}
 
 -- Codes: the last arm of a `match` on a number.
 
@@ -69,11 +69,15 @@ unfolding written
 same-written true i v s = refl
 same-written false i v s = refl
 
-same-applied : (e : Effect) (t : Bool) (i : ℕ) (b : Operand) (x y : ℕ) (s : Banks) → applied e (either t i) b x y s ≡ applied e (Register Psr i) b x y s
+same-effect : (e : Effect) (t : Bool) (i : ℕ) (b : Operand) (x y : ℕ) (s : Banks) → applied e (either t i) b x y s ≡ applied e (Register Psr i) b x y s
 unfolding applied
-same-applied (Write v) t i b x y s = same-written t i v s
-same-applied Swap t i b x y s = same-written t i y (written b x s)
-same-applied Nothing t i b x y s = refl
+same-effect (Write v) t i b x y s = same-written t i v s
+same-effect Swap t i b x y s = same-written t i y (written b x s)
+same-effect Nothing t i b x y s = refl
+
+same-applied : (op : Operation) (t : Bool) (i : ℕ) (b : Operand) (s : Banks) → appliedIn op (either t i) b s ≡ appliedIn op (Register Psr i) b s
+unfolding appliedIn
+same-applied op t i b s = rw same-value (same-effect (effectFor op (getD (s .status) i 0) (valueOf b s)) t i b (getD (s .status) i 0) (valueOf b s) s)
 
 -- the register that a word names, by its number: its value, and what a write leaves
 module _ (w : ℕ) (s : Banks) {i : ℕ} (n : i ≡ w % 4096) where
@@ -113,39 +117,27 @@ module _ (i v : ℕ) (p : List ℕ) {may : Bool} (m : may ≡ writable i) where
 -- Sets.
 
 -- a register written, by what its bank holds then
-general-put : (i v : ℕ) (s : Banks) {g : List ℕ} → g ≡ set (s .general) i v → banks g (s .status) ≡ written (Register Gpr i) v s
+pub general-put : (i v : ℕ) (s : Banks) {g : List ℕ} → g ≡ set (s .general) i v → banks g (s .status) ≡ written (Register Gpr i) v s
 unfolding written
 general-put i v s h = rw h
 
-status-put : (i v : ℕ) (s : Banks) {p : List ℕ} → p ≡ writtenStatus i v (s .status) → banks (s .general) p ≡ written (Register Psr i) v s
+pub status-put : (i v : ℕ) (s : Banks) {p : List ℕ} → p ≡ writtenStatus i v (s .status) → banks (s .general) p ≡ written (Register Psr i) v s
 unfolding written
 status-put i v s h = rw h
 
--- an effect, by what it was found to be
-module _ (e : Effect) (i : ℕ) (b : Operand) (x y : ℕ) (s : Banks) {f : Effect} (m : f ≡ e) where
-  wrote : (a : Operand) (v : ℕ) {t : Banks} → f ≡ Write v → t ≡ written a v s → t ≡ applied e a b x y s
-  unfolding applied
-  wrote a v d h = h ∙ rw (sym m ∙ d)
+-- an effect, by the operands' values and what it was found to be
+module _ (op : Operation) (a b : Operand) (s : Banks) {x y : ℕ} {f : Effect} (p : x ≡ valueOf a s) (q : y ≡ valueOf b s) (m : f ≡ effectFor op x y) where
+  pub wrote : {v : ℕ} {t : Banks} → f ≡ Write v → t ≡ written a v s → t ≡ appliedIn op a b s
+  unfolding appliedIn applied
+  wrote d h = h ∙ rw (← p, ← q, ← m, d)
 
-  swapped : (a : Operand) {t u : Banks} → f ≡ Swap → t ≡ written b x s → u ≡ written a y t → u ≡ applied e a b x y s
-  unfolding applied
-  swapped a d k h = h ∙ rw (sym m ∙ d, k)
+  pub swapped : {t u : Banks} → f ≡ Swap → t ≡ written b x s → u ≡ written a y t → u ≡ appliedIn op a b s
+  unfolding appliedIn applied
+  swapped d k h = h ∙ rw (← p, ← q, ← m, d, k)
 
-  pub nothing : (a : Operand) → f ≡ Nothing → s ≡ applied e a b x y s
-  unfolding applied
-  nothing a d = rw (sym m ∙ d)
-
-  pub wrote-general : {v : ℕ} {g : List ℕ} → f ≡ Write v → g ≡ set (s .general) i v → banks g (s .status) ≡ applied e (Register Gpr i) b x y s
-  wrote-general {v} d h = wrote (Register Gpr i) v d (general-put i v s h)
-
-  pub wrote-status : {v : ℕ} {p : List ℕ} → f ≡ Write v → p ≡ writtenStatus i v (s .status) → banks (s .general) p ≡ applied e (Register Psr i) b x y s
-  wrote-status {v} d h = wrote (Register Psr i) v d (status-put i v s h)
-
-  pub swapped-general : (t : Banks) {g : List ℕ} → f ≡ Swap → t ≡ written b x s → g ≡ set (t .general) i y → banks g (t .status) ≡ applied e (Register Gpr i) b x y s
-  swapped-general t d k h = swapped (Register Gpr i) d k (general-put i y t h)
-
-  pub swapped-status : (t : Banks) {p : List ℕ} → f ≡ Swap → t ≡ written b x s → p ≡ writtenStatus i y (t .status) → banks (t .general) p ≡ applied e (Register Psr i) b x y s
-  swapped-status t d k h = swapped (Register Psr i) d k (status-put i y t h)
+  pub nothing : f ≡ Nothing → s ≡ appliedIn op a b s
+  unfolding appliedIn applied
+  nothing d = rw (← p, ← q, ← m, d)
 
 -- a Set command leaves all as it is where its first operand names no register, or it has no effect
 module _ (op : Operation) (b : Operand) (x y : ℕ) (s : Banks) where
@@ -164,22 +156,25 @@ module _ (op : Operation) (b : Operand) (x y : ℕ) (s : Banks) where
     both true = refl
     both false = refl
 
-  -- the same of a word that names a register
-  module _ {a : Operand} (w : ℕ) {i : ℕ} (m : a ≡ operandOf true false w) (n : i ≡ w % 4096) where
-    pub sets-general : {t : Banks} → w < 0x8000_0000 → t ≡ applied (effectFor op x y) (Register Gpr i) b x y s → t ≡ setOf op a b x y s
-    sets-general h e =
-        let g : a ≡ Register Gpr i = m ∙ general-word w h ∙ ap (Register Gpr) (sym n) in
-        let small : i < 4096 = omega arith in
-        sets-named a (ap names g ∙ lt-ltb i 4096 small) (e ∙ ap (λ o. applied (effectFor op x y) o b x y s) (sym g))
+-- the same of a word that names a register, with the values that the operands have
+module _ (op : Operation) (b : Operand) (s : Banks) {a : Operand} (w : ℕ) {i : ℕ} (m : a ≡ operandOf true false w) (n : i ≡ w % 4096) where
+  pub sets-general : {t : Banks} → w < 0x8000_0000 → t ≡ appliedIn op (Register Gpr i) b s → t ≡ setIn op a b s
+  unfolding appliedIn
+  sets-general h e =
+      let g : a ≡ Register Gpr i = m ∙ general-word w h ∙ ap (Register Gpr) (sym n) in
+      let small : i < 4096 = omega arith in
+      sets-named op b (valueOf a s) (valueOf b s) s a (ap names g ∙ lt-ltb i 4096 small) (e ∙ ap (λ o. appliedIn op o b s) (sym g))
 
-    pub sets-status : {t : Banks} → 0x8000_0000 ≤ w → i < 128 → t ≡ applied (effectFor op x y) (Register Psr i) b x y s → t ≡ setOf op a b x y s
-    sets-status h small e =
-        let k = ltb w 0xC000_0000 in
-        let g : a ≡ either k i = m ∙ status-word w h ∙ ap (either k) (sym n) in
-        sets-named a (ap names g ∙ same-names k i ∙ lt-ltb i 128 small) (e ∙ sym (same-applied (effectFor op x y) k i b x y s) ∙ ap (λ o. applied (effectFor op x y) o b x y s) (sym g))
+  pub sets-status : {t : Banks} → 0x8000_0000 ≤ w → i < 128 → t ≡ appliedIn op (Register Psr i) b s → t ≡ setIn op a b s
+  unfolding appliedIn
+  sets-status h small e =
+      let k = ltb w 0xC000_0000 in
+      let g : a ≡ either k i = m ∙ status-word w h ∙ ap (either k) (sym n) in
+      sets-named op b (valueOf a s) (valueOf b s) s a (ap names g ∙ same-names k i ∙ lt-ltb i 128 small)
+      (e ∙ sym (same-applied op k i b s) ∙ ap (λ o. appliedIn op o b s) (sym g))
 
-    pub sets-past : 0x8000_0000 ≤ w → 128 ≤ i → s ≡ setOf op a b x y s
-    sets-past h large =
-        let k = ltb w 0xC000_0000 in
-        let g : a ≡ either k i = m ∙ status-word w h ∙ ap (either k) (sym n) in
-        sets-none a (ap names g ∙ same-names k i ∙ le-ltb i 128 large)
+  pub sets-past : 0x8000_0000 ≤ w → 128 ≤ i → s ≡ setIn op a b s
+  sets-past h large =
+      let k = ltb w 0xC000_0000 in
+      let g : a ≡ either k i = m ∙ status-word w h ∙ ap (either k) (sym n) in
+      sets-none op b (valueOf a s) (valueOf b s) s a (ap names g ∙ same-names k i ∙ le-ltb i 128 large)

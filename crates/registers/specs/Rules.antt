@@ -97,6 +97,13 @@ applied Nothing a b x y s = s
 unfoldable pub setOf : Operation → Operand → Operand → ℕ → ℕ → Banks → Banks
 setOf op a b x y s = cond (names a) (applied (effectFor op x y) a b x y s) s
 
+-- an effect and a Set with the values that their operands have
+unfoldable pub appliedIn : Operation → Operand → Operand → Banks → Banks
+appliedIn op a b s = applied (effectFor op (valueOf a s) (valueOf b s)) a b (valueOf a s) (valueOf b s) s
+
+abbrev pub setIn : Operation → Operand → Operand → Banks → Banks
+setIn op a b s = setOf op a b (valueOf a s) (valueOf b s) s
+
 -- Refusal 6: a bank that has not its number of registers.
 
 abbrev pub refuses : Refusal → Bool → Verdict

@@ -2,14 +2,14 @@
 ghost use mathlib.Core.Path.{_≡_};
 ghost use mathlib.Core.Bool.{true, false, cond};
 ghost use Prim.Native.Nat.{_%_};
-ghost use lib.ListN.{getD, set, replicate};
+ghost use lib.ListN.{length, getD, set, replicate};
 ghost use Rattle.register_model.specs.Rules.{classTable};
 ghost use Rattle.nav_command.specs.Rules.{operandOf};
 ghost use Rattle.nav_command.specs.Rules as nav;
 ghost use Rattle.nav_command.specs.declared.Operand.the-variants.{Register};
 ghost use Rattle.nav_command.specs.declared.RegisterBank.the-variants.{Gpr, Psr};
-ghost use Rattle.registers.specs.Laws.{OneAnswer};
-ghost use Rattle.registers.specs.Rules.{banks, valueOf, writtenStatus, written, effectFor, applied, setOf, refuses, bankOf, readOf, putOf, meant};
+ghost use Rattle.registers.specs.Laws.{Full, OneAnswer};
+ghost use Rattle.registers.specs.Rules.{banks, valueOf, writtenStatus, written, effectFor, appliedIn, setIn, refuses, bankOf, readOf, putOf, meant};
 use error::Refusal;
 use error::Verdict;
 
@@ -40,20 +40,22 @@ enum Effect {
     Nothing,
 }
 
-// One register, and one operand.
+// One register of a bank of `size`, and one operand.
 
-fn load(bank: &[u32], index: u16) -> u32
+fn load(size: usize, bank: &[u32], index: u16) -> u32
+    requires { ⌜ length (now bank) ≡ size ⌝ }
     ensures { λ r. ⌜ r ≡ getD (now (bank .entry)) index 0 ⌝ }
 {
     let at = index as usize;
-    if at < bank.len() { bank[at] } else { 0 }
+    if at < size { bank[at] } else { 0 }
 }
 
-fn store(bank: &mut [u32], index: u16, value: u32)
+fn store(size: usize, bank: &mut [u32], index: u16, value: u32)
+    requires { ⌜ length (now bank) ≡ size ⌝ }
     ensures { λ _. ⌜ now (bank .exit) ≡ set (now (bank .entry)) index value ⌝ }
 {
     let at = index as usize;
-    if at < bank.len() {
+    if at < size {
         bank[at] = value;
     }
 }
@@ -67,17 +69,19 @@ fn index_of(word: u32) -> u16
 
 // The value of the register that a word names.
 fn value_at(gpr: &[u32], psr: &[u32], word: u32) -> u32
+    requires { ⌜ Full (now gpr) (now psr) ⌝ }
     ensures { λ r. ⌜ r ≡ valueOf (operandOf true false word) (banks (now (gpr .entry)) (now (psr .entry))) ⌝ }
 {
     let index = index_of(word);
     if word < 0x8000_0000 {
-        return load(gpr, index);
+        return load(Registers::GPR_COUNT, gpr, index);
     }
-    load(psr, index)
+    load(Registers::PSR_COUNT, psr, index)
 }
 
 // An operand's value; 0 where there is none.
 pub fn value(gpr: &[u32], psr: &[u32], a: Raw) -> u32
+    requires { ⌜ Full (now gpr) (now psr) ⌝ }
     ensures { λ r. ⌜ r ≡ valueOf (meant a) (banks (now (gpr .entry)) (now (psr .entry))) ⌝ }
 {
     if a.there {
@@ -89,38 +93,39 @@ pub fn value(gpr: &[u32], psr: &[u32], a: Raw) -> u32
     0
 }
 
-fn store_if(allowed: bool, bank: &mut [u32], index: u16, value: u32)
+fn store_if(allowed: bool, size: usize, bank: &mut [u32], index: u16, value: u32)
+    requires { ⌜ length (now bank) ≡ size ⌝ }
     ensures { λ _. ⌜ now (bank .exit) ≡ cond allowed (set (now (bank .entry)) index value) (now (bank .entry)) ⌝ }
 {
     if allowed {
-        store(bank, index, value);
+        store(size, bank, index, value);
     }
 }
 
 // Writes a status register if commands may write it.
 fn write_status(psr: &mut [u32], classes: &[u8], index: u16, v: u32)
-    requires { ⌜ now classes ≡ classTable ⌝ }
+    requires { ⌜ (now classes ≡ classTable) × (length (now psr) ≡ 128) ⌝ }
     ensures { λ _. ⌜ now (psr .exit) ≡ writtenStatus index v (now (psr .entry)) ⌝ }
 {
     let allowed = register_model::may_write(classes, index);
-    store_if(allowed, psr, index, v);
+    store_if(allowed, Registers::PSR_COUNT, psr, index, v);
 }
 
 // Writes the register that a word names as a command does: a protected one keeps its value.
 fn write_at(gpr: &mut [u32], psr: &mut [u32], classes: &[u8], word: u32, v: u32)
-    requires { ⌜ now classes ≡ classTable ⌝ }
+    requires { ⌜ (now classes ≡ classTable) × Full (now gpr) (now psr) ⌝ }
     ensures { λ _. ⌜ banks (now (gpr .exit)) (now (psr .exit)) ≡ written (operandOf true false word) v (banks (now (gpr .entry)) (now (psr .entry))) ⌝ }
 {
     let index = index_of(word);
     if word < 0x8000_0000 {
-        store(gpr, index, v);
+        store(Registers::GPR_COUNT, gpr, index, v);
         return;
     }
     write_status(psr, classes, index, v);
 }
 
 fn write(gpr: &mut [u32], psr: &mut [u32], classes: &[u8], a: Raw, v: u32)
-    requires { ⌜ now classes ≡ classTable ⌝ }
+    requires { ⌜ (now classes ≡ classTable) × Full (now gpr) (now psr) ⌝ }
     ensures { λ _. ⌜ banks (now (gpr .exit)) (now (psr .exit)) ≡ written (meant a) v (banks (now (gpr .entry)) (now (psr .entry))) ⌝ }
 {
     if a.there {
@@ -157,71 +162,48 @@ fn compute(code: u8, x: u32, y: u32) -> Effect
     }
 }
 
-fn set_general(
-    gpr: &mut [u32],
-    psr: &mut [u32],
-    classes: &[u8],
-    code: u8,
-    index: u16,
-    b: Raw,
-    x: u32,
-    y: u32,
-)
-    requires { ⌜ now classes ≡ classTable ⌝ }
+fn set_general(gpr: &mut [u32], psr: &mut [u32], classes: &[u8], code: u8, index: u16, b: Raw)
+    requires { ⌜ (now classes ≡ classTable) × Full (now gpr) (now psr) ⌝ }
     ensures { λ _. ⌜ banks (now (gpr .exit)) (now (psr .exit))
-        ≡ applied (effectFor (nav.setOf 0 code) x y) (Register Gpr index) (meant b) x y (banks (now (gpr .entry)) (now (psr .entry))) ⌝ }
+        ≡ appliedIn (nav.setOf 0 code) (Register Gpr index) (meant b) (banks (now (gpr .entry)) (now (psr .entry))) ⌝ }
 {
+    let x = load(Registers::GPR_COUNT, gpr, index);
+    let y = value(gpr, psr, b);
     let effect = compute(code, x, y);
     match effect {
-        Effect::Write(v) => store(gpr, index, v),
+        Effect::Write(v) => store(Registers::GPR_COUNT, gpr, index, v),
         Effect::Swap => {
             write(gpr, psr, classes, b, x);
-            store(gpr, index, y);
+            store(Registers::GPR_COUNT, gpr, index, y);
         }
         Effect::Nothing => {}
     }
 }
 
-fn set_status(
-    gpr: &mut [u32],
-    psr: &mut [u32],
-    classes: &[u8],
-    code: u8,
-    index: u16,
-    b: Raw,
-    x: u32,
-    y: u32,
-)
-    requires { ⌜ now classes ≡ classTable ⌝ }
+fn set_status(gpr: &mut [u32], psr: &mut [u32], classes: &[u8], code: u8, index: u16, b: Raw)
+    requires { ⌜ (now classes ≡ classTable) × Full (now gpr) (now psr) ⌝ }
     ensures { λ _. ⌜ banks (now (gpr .exit)) (now (psr .exit))
-        ≡ applied (effectFor (nav.setOf 0 code) x y) (Register Psr index) (meant b) x y (banks (now (gpr .entry)) (now (psr .entry))) ⌝ }
+        ≡ appliedIn (nav.setOf 0 code) (Register Psr index) (meant b) (banks (now (gpr .entry)) (now (psr .entry))) ⌝ }
 {
     let allowed = register_model::may_write(classes, index);
+    let x = load(Registers::PSR_COUNT, psr, index);
+    let y = value(gpr, psr, b);
     let effect = compute(code, x, y);
     match effect {
-        Effect::Write(v) => store_if(allowed, psr, index, v),
+        Effect::Write(v) => store_if(allowed, Registers::PSR_COUNT, psr, index, v),
         Effect::Swap => {
             write(gpr, psr, classes, b, x);
-            store_if(allowed, psr, index, y);
+            store_if(allowed, Registers::PSR_COUNT, psr, index, y);
         }
         Effect::Nothing => {}
     }
 }
 
 // Nothing is done unless the first operand names a register.
-pub fn set_registers(
-    gpr: &mut [u32],
-    psr: &mut [u32],
-    classes: &[u8],
-    code: u8,
-    a: Raw,
-    b: Raw,
-    x: u32,
-    y: u32,
-)
-    requires { ⌜ now classes ≡ classTable ⌝ }
+pub fn set_registers(gpr: &mut [u32], psr: &mut [u32], classes: &[u8], code: u8, a: Raw, b: Raw)
+    requires { ⌜ (now classes ≡ classTable) × Full (now gpr) (now psr) ⌝ }
     ensures { λ _. ⌜ banks (now (gpr .exit)) (now (psr .exit))
-        ≡ setOf (nav.setOf 0 code) (meant a) (meant b) x y (banks (now (gpr .entry)) (now (psr .entry))) ⌝ }
+        ≡ setIn (nav.setOf 0 code) (meant a) (meant b) (banks (now (gpr .entry)) (now (psr .entry))) ⌝ }
 {
     if a.there {
         if a.immediate {
@@ -229,11 +211,11 @@ pub fn set_registers(
         }
         let index = index_of(a.word);
         if a.word < 0x8000_0000 {
-            set_general(gpr, psr, classes, code, index, b, x, y);
+            set_general(gpr, psr, classes, code, index, b);
             return;
         }
         if index < 128 {
-            set_status(gpr, psr, classes, code, index, b, x, y);
+            set_status(gpr, psr, classes, code, index, b);
         }
     }
 }
@@ -266,7 +248,7 @@ fn read_at(size: usize, bank: &[u32], index: u16) -> Read
     }
     let at = index as usize;
     if at < size {
-        return Read::Value(load(bank, index));
+        return Read::Value(load(size, bank, index));
     }
     Read::NoRegister
 }
@@ -278,7 +260,7 @@ fn put_at(size: usize, bank: &mut [u32], index: u16, v: u32) -> Verdict
     if let Verdict::Refused(_) = verdict {
         return verdict;
     }
-    store(bank, index, v);
+    store(size, bank, index, v);
     verdict
 }
 

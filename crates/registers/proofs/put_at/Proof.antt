@@ -1,5 +1,6 @@
 use mathlib.Core.Path.{sym, ap, _∙_}
 use borrow.Author.Needs.{needs}
+use Rattle.registers.specs.Laws.{fine-bank}
 use Rattle.registers.specs.Rules.{putOf}
 use Rattle.registers.proofs.put_at.Statement.{statement}
 use Rattle.registers.proofs.put_at.Tie as tie
@@ -7,6 +8,9 @@ use Rattle.registers.proofs.put_at.Tie as tie
 returns : tie.Need-returns
 unfolding putOf
 returns c = (rw (sym (c .before .before .check-bank .ensures) ∙ c .enum-told .given .1), c .before .before .check-bank .ensures)
+
+store-requires : tie.Need-store-requires
+store-requires c κs = fine-bank _ _ (sym (c .before .before .before .check-bank .ensures) ∙ c .before .enum-told2 .given .1)
 
 returns-2 : tie.Need-returns-2
 unfolding putOf
@@ -21,6 +25,6 @@ put-at-spec =
     (λ c. search needs)
     returns
     (λ c. search needs)
-    (λ c κs. search needs)
+    store-requires
     (λ c. search needs)
     returns-2)

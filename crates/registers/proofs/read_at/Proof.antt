@@ -1,6 +1,7 @@
 use mathlib.Core.Path.{sym, ap, _∙_}
 use borrow.Author.Needs.{needs}
 use borrow.Author.Tests.{lt-ltb, le-ltb}
+use Rattle.registers.specs.Laws.{fine-bank}
 use Rattle.registers.specs.Rules.{readOf}
 use Rattle.registers.proofs.read_at.Statement.{statement}
 use Rattle.registers.proofs.read_at.Tie as tie
@@ -8,6 +9,9 @@ use Rattle.registers.proofs.read_at.Tie as tie
 returns : tie.Need-returns
 unfolding readOf
 returns c = rw (sym (c .before .before .before .check-bank .ensures) ∙ c .before .verdict .given .1)
+
+load-requires : tie.Need-load-requires
+load-requires c κs = fine-bank _ _ (sym (c .before .before .before .check-bank .ensures) ∙ c .before .enum-told .given .1)
 
 returns-2 : tie.Need-returns-2
 unfolding readOf
@@ -25,6 +29,6 @@ read-at-spec =
     (λ c. search needs)
     returns
     (λ c. search needs)
-    (λ c κs. search needs)
+    load-requires
     returns-2
     returns-3)

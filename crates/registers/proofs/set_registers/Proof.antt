@@ -13,20 +13,20 @@ returns-2 : tie.Need-returns-2
 returns-2 c =
     let u = c .before .before .before .before in
     let t = u .before .before .before .before .before in
-    sets-general _ _ _ _ _ _ (register _ (t .before .before .if1 .taken) (t .before .if2 .left)) (t .index-of .ensures)
+    sets-general _ _ _ _ (register _ (t .before .before .if1 .taken) (t .before .if2 .left)) (t .index-of .ensures)
     (u .before .before .before .if3 .taken) (u .set-general .ensures)
 
 returns-3 : tie.Need-returns-3
 returns-3 c =
     let u = c .before .before .before .before in
     let t = u .before .before .before .before .before .before in
-    sets-status _ _ _ _ _ _ (register _ (t .before .before .if1 .taken) (t .before .if2 .left)) (t .index-of .ensures)
+    sets-status _ _ _ _ (register _ (t .before .before .if1 .taken) (t .before .if2 .left)) (t .index-of .ensures)
     (u .before .before .before .before .if3 .left) (u .before .before .before .if4 .taken) (u .set-status .ensures)
 
 returns-4 : tie.Need-returns-4
 returns-4 c =
     let t = c .before .before .before in
-    sets-past _ _ _ _ _ _ (register _ (t .before .before .if1 .taken) (t .before .if2 .left)) (t .index-of .ensures)
+    sets-past _ _ _ _ (register _ (t .before .before .if1 .taken) (t .before .if2 .left)) (t .index-of .ensures)
     (c .before .if3 .left) (c .if4 .left)
 
 returns-5 : tie.Need-returns-5

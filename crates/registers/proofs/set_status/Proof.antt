@@ -1,18 +1,35 @@
 -- `set_status` leaves what the effect of the code leaves: an arm for each effect. Assumes nothing.
 use borrow.Author.Needs.{needs}
-use Rattle.registers.proofs.Laws.{nothing, wrote-status, swapped-status, as-written}
+use Rattle.registers.proofs.Laws.{as-written, status-put, wrote, swapped, nothing}
 use Rattle.registers.proofs.set_status.Statement.{statement}
 use Rattle.registers.proofs.set_status.Tie as tie
 
+-- the places of the values, from where the effect is known
+abbrev valued : tie.After-compute → tie.After-value
+valued t = t .before
+
+abbrev loaded : tie.After-compute → tie.After-load
+loaded t = valued t .before .before .before
+
 returns : tie.Need-returns
-returns c = wrote-status _ _ _ _ _ _ (c .before .before .before .before .before .before .before .compute .ensures) (c .before .before .before .before .before .effect .given .1) (as-written _ _ _ (c .before .before .before .before .before .before .before .before .may-write .ensures) (c .before .before .store-if .ensures))
+returns c =
+    let u = c .before .before .before .before .before in
+    let t = u .before .before in
+    wrote _ _ _ _ (loaded t .load .ensures) (valued t .value .ensures) (t .compute .ensures) (u .effect .given .1)
+    (status-put _ _ _ (as-written _ _ _ (loaded t .before .before .may-write .ensures) (c .before .before .store-if .ensures)))
 
 returns-2 : tie.Need-returns-2
 returns-2 c =
-    swapped-status _ _ _ _ _ _ (c .before .before .before .before .before .before .before .before .before .before .before .before .before .compute .ensures) _ (c .before .before .before .before .before .before .before .before .before .before .before .enum-told .given .1) (c .before .before .before .before .before .before .before .before .write .ensures) (as-written _ _ _ (c .before .before .before .before .before .before .before .before .before .before .before .before .before .before .may-write .ensures) (c .before .before .store-if2 .ensures))
+    let w = c .before .before .before .before .before .before .before .before in
+    let u = w .before .before .before in
+    let t = u .before .before in
+    swapped _ _ _ _ (loaded t .load .ensures) (valued t .value .ensures) (t .compute .ensures) (u .enum-told .given .1)
+    (w .write .ensures) (status-put _ _ _ (as-written _ _ _ (loaded t .before .before .may-write .ensures) (c .before .before .store-if2 .ensures)))
 
 returns-3 : tie.Need-returns-3
-returns-3 c = nothing _ (c .before .before .before .before .before .before .before .args .index) _ _ _ _ (c .before .before .compute .ensures) _ (c .enum-told2 .given .1)
+returns-3 c =
+    let t = c .before .before in
+    nothing _ _ _ _ (loaded t .load .ensures) (valued t .value .ensures) (t .compute .ensures) (c .enum-told2 .given .1)
 
 pub set-status-spec : {M : Type 1} → statement M
 set-status-spec =
@@ -20,15 +37,20 @@ set-status-spec =
     (tie.spec
     (λ c κs. search needs)
     (λ c κs. search needs)
+    (λ c κs. search needs)
+    (λ c κs. search needs)
     (λ c. search needs)
     (λ c κs. search needs)
     (λ c. search needs)
     (λ c κs. search needs)
     (λ c κs. search needs)
+    (λ c. search needs)
     (λ c. search needs)
     (λ c. search needs)
     returns
     (λ c. search needs)
     (λ c. search needs)
     returns-2
+    (λ c. search needs)
+    (λ c. search needs)
     returns-3)
