@@ -1,14 +1,13 @@
 -- The laws of one command and of a run: how what the calls promise makes what the rules say. Assumes nothing.
 use mathlib.Core.Path.{_≡_, refl, sym, ap, _∙_}
-use mathlib.Core.Bool.{Bool, true, false, cond}
+use mathlib.Core.Bool.{Bool, false}
 use mathlib.Core.List.{List, [], _∷_, map}
 use Prim.Native.Nat.{ℕ, zero, suc, _+_, _-_, _*_, _/_, _%_, _≤_, _<_}
 use native.Mathlib.Omega.{arith}
-use lib.Dec.{eqb, ltb}
 use lib.ListN.{length, getD, set, List·getD-eq-default}
-use borrow.Author.Tests.{le-leb, lt-leb, lt-ltb, le-ltb, eq-eqb, ne-eqb}
+use borrow.Author.Tests.{le-leb, lt-leb, ne-eqb}
 use Rattle.registers.proofs.Laws.{NoneOf, beyond, from-one, sets-nothing}
-use Rattle.nav_command.specs.Rules.{byteAt, groupBits, subOf, groups, groupOf, operandOf, commandOf, gotos, jumps, plays, compares}
+use Rattle.nav_command.specs.Rules.{byteAt, groupBits, subOf, groups, commandOf, gotos, jumps, plays, compares}
 use Rattle.nav_command.specs.Rules as nav
 use Rattle.nav_command.proofs.Laws.{no-row, no-row-1}
 use Rattle.nav_command.specs.declared.CommandGroup.the-variants.{Reserved}
@@ -21,7 +20,7 @@ use Rattle.vm.specs.declared.End.the-variants.{Spent}
 use Rattle.vm.specs.declared.Next.{Next}
 use Rattle.vm.specs.declared.Next.the-variants.{Go, Stop}
 use Rattle.registers.specs.declared.Raw.{Raw}
-use Rattle.registers.specs.Rules.{effectFor, meant}
+use Rattle.registers.specs.Rules.{effectFor, setIn, meant}
 use Rattle.vm.specs.declared.Ran.{Ran}
 use Rattle.vm.specs.declared.Step.{Step}
 use Rattle.vm.specs.declared.Step.the-variants.{Continue, Skipped, Halted, Branch}
@@ -30,7 +29,7 @@ use Rattle.vm.specs.declared.Answer.the-variants.{Done, Refused}
 use Rattle.error.specs.declared.Refusal.{Refusal}
 use Rattle.error.specs.declared.Verdict.{Verdict}
 use Rattle.error.specs.declared.Verdict.the-variants as Fit
-use Rattle.vm.specs.Rules.{Banks, banks, After, with, valueOf, stepped, on, halted, execBranch, holdsFor, compareOf, setOf, systemOf, execSet, acted, execOf, fetched, stepOf, nextOf, ran, goesOn, runFrom, runOf, plain, plainly, answered, rawFirst, rawSecond, single}
+use Rattle.vm.specs.Rules.{Banks, After, with, stepped, on, halted, execBranch, holdsFor, compareOf, systemOf, execSet, acted, execOf, fetched, stepOf, nextOf, ran, goesOn, runFrom, runOf, plain, plainly, answered, rawFirst, rawSecond, firstValue, secondValue, asBranch, asCompare, asSet, single}
 
 -- branch options past the last of a row, and rows past the last
 module _ (option : ℕ) where
@@ -56,55 +55,63 @@ module _ (code : ℕ) where
   unfolding nav.compareOf
   past-compares r = from-one (map Compare compares) code (Unknown 0 code) (beyond 1 7 code r)
 
--- what a call leaves, by its parts
-pub leaving : {s t : Banks} {q r : Stepped} → s ≡ t → q ≡ r → with s q ≡ with t r
-leaving p e = rw (p, e)
-
--- a command of the Set group, by its sub-group
-module _ (sub code : ℕ) (a b : Operand) (x y pc : ℕ) (s : Banks) where
-  pub set-0 : {t : Banks} {r : Stepped} → sub ≡ 0 → t ≡ setOf (nav.setOf 0 code) a b x y s → r ≡ on pc → with t r ≡ execSet sub (nav.setOf sub code) a b x y pc s
-  unfolding execSet
-  set-0 h e f = rw (h, e, f)
-
-  pub set-1 : {r : Stepped} → sub ≡ 1 → r ≡ systemOf (nav.setOf 1 code) x y pc → with s r ≡ execSet sub (nav.setOf sub code) a b x y pc s
-  unfolding execSet
-  set-1 h e = rw (h, e)
-
-  pub set-other : {r : Stepped} → 2 ≤ sub → r ≡ on pc → with s r ≡ execSet sub (nav.setOf sub code) a b x y pc s
-  unfolding execSet nav.setOf
-  set-other h e =
-      let u : Unknown sub code ≡ nav.setOf sub code = no-row-1 nav.setRows sub code (Unknown sub code) h in
-      rw (ne-eqb sub 1 (λ q. omega arith), e, ← sets-nothing (nav.setOf sub code) b x y s a (ap (λ o. effectFor o x y) (sym u)))
-
--- One command.
-
 -- whether a compare holds goes by its code alone
 code-alone : (d e : Operation) (x y : ℕ) (row : List Operation) (i : ℕ) → holdsFor d x y ≡ holdsFor e x y → holdsFor (getD row i d) x y ≡ holdsFor (getD row i e) x y
 code-alone d e x y [] i h = h
 code-alone d e x y (o ∷ row) zero h = refl
 code-alone d e x y (o ∷ row) (suc i) h = code-alone d e x y row i h
 
-pub any-sub : (sub code x y : ℕ) → holdsFor (nav.compareOf 0 code) x y ≡ holdsFor (nav.compareOf sub code) x y
+any-sub : (sub code x y : ℕ) → holdsFor (nav.compareOf 0 code) x y ≡ holdsFor (nav.compareOf sub code) x y
 unfolding nav.compareOf
 any-sub sub zero x y = refl
 any-sub sub (suc code) x y = code-alone (Unknown 0 (suc code)) (Unknown sub (suc code)) x y (map Compare compares) code refl
 
--- the command of twelve bytes, by the bits of its group and the values of its operands
-module _ (bytes : List ℕ) (pc count : ℕ) (s : Banks) {a b : Raw} {x y : ℕ} (f : a ≡ rawFirst bytes) (g : b ≡ rawSecond bytes) (p : x ≡ valueOf (meant a) s) (q : y ≡ valueOf (meant b) s) where
-  pub by-branch : {r : Stepped} → groupBits bytes ≡ 0 → r ≡ execBranch (nav.branchOf (subOf bytes) (byteAt bytes 1 % 16)) x y pc count
-      → with s r ≡ execOf (commandOf bytes) pc count s
-  unfolding execOf acted commandOf
-  by-branch k e = rw (k, e, p, q, f, g)
+-- sub-groups from 2 on have no Set that changes anything
+no-set : (sub code : ℕ) (a b : Operand) (x y pc : ℕ) (s : Banks) → 2 ≤ sub → with s (on pc) ≡ execSet sub (nav.setOf sub code) a b x y pc s
+unfolding execSet nav.setOf
+no-set sub code a b x y pc s h =
+    let u : Unknown sub code ≡ nav.setOf sub code = no-row-1 nav.setRows sub code (Unknown sub code) h in
+    rw (ne-eqb sub 1 (λ q. omega arith), ← sets-nothing (nav.setOf sub code) b x y s a (ap (λ o. effectFor o x y) (sym u)))
 
-  pub by-compare : {h : Bool} {r : Stepped} → groupBits bytes ≡ 1 → h ≡ holdsFor (nav.compareOf 0 (byteAt bytes 2)) x y → r ≡ compareOf h pc count
-      → with s r ≡ execOf (commandOf bytes) pc count s
-  unfolding execOf acted commandOf
-  by-compare k h e = rw (k, e, h, any-sub (subOf bytes) (byteAt bytes 2) x y, p, q, f, g)
+-- One command.
 
-  pub by-set : {t : After Stepped} → groupBits bytes ≡ 2 → t ≡ execSet (subOf bytes) (nav.setOf (subOf bytes) (byteAt bytes 3)) (meant a) (meant b) x y pc s
-      → t ≡ execOf (commandOf bytes) pc count s
-  unfolding execOf acted commandOf
-  by-set k e = rw (k, e, p, q, f, g)
+-- the command of twelve bytes taken for one of its group, by what is read of it
+module _ (bytes : List ℕ) (pc : ℕ) (s : Banks) where
+  module _ {x y : ℕ} (p : x ≡ firstValue bytes s) (q : y ≡ secondValue bytes s) where
+    pub branched : (count : ℕ) {r : Stepped} → r ≡ execBranch (nav.branchOf (subOf bytes) (byteAt bytes 1 % 16)) x y pc count → r ≡ asBranch bytes pc count s
+    unfolding asBranch
+    branched count e = e ∙ rw (p, q)
+
+    pub compared : (count : ℕ) {h : Bool} {r : Stepped} → h ≡ holdsFor (nav.compareOf 0 (byteAt bytes 2)) x y → r ≡ compareOf h pc count → r ≡ asCompare bytes pc count s
+    unfolding asCompare
+    compared count h e = e ∙ rw (h, any-sub (subOf bytes) (byteAt bytes 2) x y, p, q)
+
+    pub asked : {r : Stepped} → subOf bytes ≡ 1 → r ≡ systemOf (nav.setOf 1 (byteAt bytes 3)) x y pc → with s r ≡ asSet bytes pc s
+    unfolding asSet execSet
+    asked h e = rw (h, e, p, q)
+
+  pub changed : {a b : Raw} {t : Banks} {r : Stepped} → subOf bytes ≡ 0 → a ≡ rawFirst bytes → b ≡ rawSecond bytes
+      → t ≡ setIn (nav.setOf 0 (byteAt bytes 3)) (meant a) (meant b) s → r ≡ on pc → with t r ≡ asSet bytes pc s
+  unfolding asSet execSet
+  changed h f g e k = rw (h, k, e, f, g)
+
+  pub unchanged : {r : Stepped} → 2 ≤ subOf bytes → r ≡ on pc → with s r ≡ asSet bytes pc s
+  unfolding asSet
+  unchanged h e = rw e (no-set (subOf bytes) (byteAt bytes 3) (meant (rawFirst bytes)) (meant (rawSecond bytes)) (firstValue bytes s) (secondValue bytes s) pc s h)
+
+-- the same command, by the bits of its group
+module _ (bytes : List ℕ) (pc count : ℕ) (s : Banks) where
+  pub by-branch : {r : Stepped} → groupBits bytes ≡ 0 → r ≡ asBranch bytes pc count s → with s r ≡ execOf (commandOf bytes) pc count s
+  unfolding execOf acted commandOf asBranch
+  by-branch k e = rw (k, e)
+
+  pub by-compare : {r : Stepped} → groupBits bytes ≡ 1 → r ≡ asCompare bytes pc count s → with s r ≡ execOf (commandOf bytes) pc count s
+  unfolding execOf acted commandOf asCompare
+  by-compare k e = rw (k, e)
+
+  pub by-set : {t : After Stepped} → groupBits bytes ≡ 2 → t ≡ asSet bytes pc s → t ≡ execOf (commandOf bytes) pc count s
+  unfolding execOf acted commandOf asSet
+  by-set k e = rw (k, e)
 
   pub by-none : {r : Stepped} → 3 ≤ groupBits bytes → r ≡ on pc → with s r ≡ execOf (commandOf bytes) pc count s
   unfolding execOf acted commandOf

@@ -10,7 +10,11 @@ use borrow.Author.Tests.{leb-true, leb-false, ltb-true}
 use Rattle.laws.specs.Cases.{either-way, by-test}
 use Rattle.nav_command.specs.Rules.{commandOf}
 pub use Rattle.registers.specs.Laws.{Unique, unique, Sized}
-use Rattle.registers.specs.Laws.{sized-set}
+use Rattle.registers.specs.Laws.{sized-set, fine-bank}
+use Rattle.registers.specs.Rules.{bankOf}
+use Rattle.error.specs.Rules.{firstOf}
+use Rattle.error.specs.declared.Verdict.{Verdict}
+use Rattle.error.specs.declared.Verdict.the-variants as Fit
 use Rattle.nav_command.specs.declared.BranchOp.{BranchOp}
 use Rattle.nav_command.specs.declared.BranchOp.the-variants as B
 use Rattle.nav_command.specs.declared.CommandGroup.{CommandGroup}
@@ -27,7 +31,7 @@ use Rattle.vm.specs.declared.Ran.{Ran}
 use Rattle.vm.specs.declared.Step.{Step}
 use Rattle.vm.specs.declared.Step.the-variants.{Continue, Skipped, Halted, Branch}
 use Rattle.vm.specs.declared.Stepped.{Stepped}
-use Rattle.vm.specs.Rules.{Banks, banks, After, with, valueOf, stepped, on, halted, goTo, branchOf, execBranch, holdsFor, compareOf, setOf, systemOf, execSet, acted, execOf, fetched, stepOf, nextOf, goesOn, runFrom, runOf, stepAnswer, runAnswer}
+use Rattle.vm.specs.Rules.{Banks, banks, After, with, valueOf, stepped, on, halted, goTo, branchOf, execBranch, holdsFor, compareOf, setOf, systemOf, execSet, acted, execOf, fetched, stepOf, nextOf, goesOn, runFrom, runOf, commandsOf, budgetOf, verdictOf, stepAnswer, runAnswer}
 
 -- Any two answers that a promise of the public calls allows are equal.
 
@@ -41,6 +45,20 @@ one-answer =
       step = λ cs pc budget s. unique (stepAnswer cs pc budget s);
       run = λ cs pc budget s. unique (runAnswer cs pc budget s);
     }
+
+-- What the tests of the input tell where they pass: both banks have all their registers.
+
+both-fine : (u v : Verdict) → firstOf u v ≡ Fit.Fine → (u ≡ Fit.Fine) × (v ≡ Fit.Fine)
+both-fine Fit.Fine v h = (refl, h)
+both-fine (Fit.Refused r) v h = let z : _≡_ {A = ℕ} 0 1 = cc in absurd (omega arith)
+
+pub fine-banks : (cs : List ℕ) (budget : ℕ) (s : Banks) → verdictOf cs budget s ≡ Fit.Fine → Sized 4096 128 s
+fine-banks cs budget s h =
+    let general = bankOf 4096 (s .general) in
+    let status = bankOf 128 (s .status) in
+    let (both, _) = both-fine (firstOf general status) (commandsOf cs) (both-fine _ (budgetOf budget) h .0) in
+    let (g, p) = both-fine general status both in
+    (fine-bank 4096 (s .general) g, fine-bank 128 (s .status) p)
 
 -- What every step keeps, a run keeps.
 

@@ -5,9 +5,10 @@ ghost use lib.ListN.{length};
 ghost use Rattle.register_model.specs.Rules.{classTable};
 ghost use Rattle.nav_command.specs.Rules.{commandOf};
 ghost use Rattle.nav_command.specs.Rules as nav;
-ghost use Rattle.registers.specs.Rules.{banks, meant};
+ghost use Rattle.registers.specs.Laws.{Full};
+ghost use Rattle.registers.specs.Rules.{banks};
 ghost use Rattle.vm.specs.Laws.{OneAnswer};
-ghost use Rattle.vm.specs.Rules.{after, on, halted, leaves, goTo, execBranch, holdsFor, compareOf, systemOf, execSet, execOf, fetched, stepOf, nextOf, runOf, commandsOf, budgetOf, verdictOf, stepAnswer, plain, runAnswer, rawFirst, rawSecond, single};
+ghost use Rattle.vm.specs.Rules.{after, on, halted, leaves, goTo, execBranch, holdsFor, compareOf, systemOf, execOf, fetched, stepOf, nextOf, runOf, commandsOf, budgetOf, verdictOf, stepAnswer, plain, runAnswer, rawFirst, rawSecond, firstValue, secondValue, asBranch, asCompare, asSet, single};
 use error::Refusal;
 use error::Verdict;
 use nav_command::Operation;
@@ -121,7 +122,7 @@ fn go_to(target: u32, pc: usize, count: usize) -> Stepped
 }
 
 // A branch by its sub-group and option; what has no name does nothing.
-fn exec_branch(sub: u8, option: u8, x: u32, y: u32, pc: usize, count: usize) -> Stepped
+fn branch(sub: u8, option: u8, x: u32, y: u32, pc: usize, count: usize) -> Stepped
     ensures { λ r. ⌜ r ≡ execBranch (nav.branchOf sub option) x y pc count ⌝ }
 {
     match sub {
@@ -171,7 +172,7 @@ fn holds(code: u8, x: u32, y: u32) -> bool
 }
 
 // A compare that fails skips the next command, if there is one.
-fn exec_compare(held: bool, pc: usize, count: usize) -> Stepped
+fn compare(held: bool, pc: usize, count: usize) -> Stepped
     ensures { λ r. ⌜ r ≡ compareOf held pc count ⌝ }
 {
     if held {
@@ -204,33 +205,7 @@ fn system(code: u8, x: u32, y: u32, pc: usize) -> Stepped
     )
 }
 
-fn exec_set(
-    gpr: &mut [u32],
-    psr: &mut [u32],
-    classes: &[u8],
-    sub: u8,
-    code: u8,
-    a: Raw,
-    b: Raw,
-    x: u32,
-    y: u32,
-    pc: usize,
-) -> Stepped
-    requires { ⌜ now classes ≡ classTable ⌝ }
-    ensures { λ r. ⌜ after (now (gpr .exit)) (now (psr .exit)) r
-        ≡ execSet sub (nav.setOf sub code) (meant a) (meant b) x y pc (banks (now (gpr .entry)) (now (psr .entry))) ⌝ }
-{
-    match sub {
-        0 => {
-            registers::set_registers(gpr, psr, classes, code, a, b, x, y);
-            go_on(pc)
-        }
-        1 => system(code, x, y, pc),
-        _ => go_on(pc),
-    }
-}
-
-// One command.
+// One command: the twelve bytes at a place, one of `count` commands, with pc already past it.
 
 fn wide(byte: u8) -> u32
     ensures { λ r. ⌜ (r ≡ byte) × (r < 256) ⌝ }
@@ -277,7 +252,85 @@ fn second(commands: &[u8], at: usize) -> Raw
     }
 }
 
-// Obeys the command at a place, one of `count`, with pc already past it.
+fn first_value(gpr: &[u32], psr: &[u32], commands: &[u8], at: usize) -> u32
+    requires { ⌜ (at + 12 ≤ length (now commands)) × Full (now gpr) (now psr) ⌝ }
+    ensures { λ r. ⌜ r ≡ firstValue (fetched (now (commands .entry)) at) (banks (now (gpr .entry)) (now (psr .entry))) ⌝ }
+{
+    registers::value(gpr, psr, first(commands, at))
+}
+
+fn second_value(gpr: &[u32], psr: &[u32], commands: &[u8], at: usize) -> u32
+    requires { ⌜ (at + 12 ≤ length (now commands)) × Full (now gpr) (now psr) ⌝ }
+    ensures { λ r. ⌜ r ≡ secondValue (fetched (now (commands .entry)) at) (banks (now (gpr .entry)) (now (psr .entry))) ⌝ }
+{
+    registers::value(gpr, psr, second(commands, at))
+}
+
+fn exec_branch(
+    gpr: &[u32],
+    psr: &[u32],
+    commands: &[u8],
+    at: usize,
+    pc: usize,
+    count: usize,
+) -> Stepped
+    requires { ⌜ (at + 12 ≤ length (now commands)) × Full (now gpr) (now psr) ⌝ }
+    ensures { λ r. ⌜ r ≡ asBranch (fetched (now (commands .entry)) at) pc count (banks (now (gpr .entry)) (now (psr .entry))) ⌝ }
+{
+    let sub = commands[at] % 8;
+    let option = commands[at + 1] % 16;
+    let x = first_value(gpr, psr, commands, at);
+    let y = second_value(gpr, psr, commands, at);
+    branch(sub, option, x, y, pc, count)
+}
+
+fn exec_compare(
+    gpr: &[u32],
+    psr: &[u32],
+    commands: &[u8],
+    at: usize,
+    pc: usize,
+    count: usize,
+) -> Stepped
+    requires { ⌜ (at + 12 ≤ length (now commands)) × Full (now gpr) (now psr) ⌝ }
+    ensures { λ r. ⌜ r ≡ asCompare (fetched (now (commands .entry)) at) pc count (banks (now (gpr .entry)) (now (psr .entry))) ⌝ }
+{
+    let code = commands[at + 2];
+    let x = first_value(gpr, psr, commands, at);
+    let y = second_value(gpr, psr, commands, at);
+    compare(holds(code, x, y), pc, count)
+}
+
+fn exec_set(
+    gpr: &mut [u32],
+    psr: &mut [u32],
+    classes: &[u8],
+    commands: &[u8],
+    at: usize,
+    pc: usize,
+) -> Stepped
+    requires { ⌜ (now classes ≡ classTable) × (at + 12 ≤ length (now commands)) × Full (now gpr) (now psr) ⌝ }
+    ensures { λ r. ⌜ after (now (gpr .exit)) (now (psr .exit)) r
+        ≡ asSet (fetched (now (commands .entry)) at) pc (banks (now (gpr .entry)) (now (psr .entry))) ⌝ }
+{
+    let code = commands[at + 3];
+    match commands[at] % 8 {
+        0 => {
+            let a = first(commands, at);
+            let b = second(commands, at);
+            registers::set_registers(gpr, psr, classes, code, a, b);
+            go_on(pc)
+        }
+        1 => {
+            let x = first_value(gpr, psr, commands, at);
+            let y = second_value(gpr, psr, commands, at);
+            system(code, x, y, pc)
+        }
+        _ => go_on(pc),
+    }
+}
+
+// Each group reads the operands that it needs.
 fn exec(
     gpr: &mut [u32],
     psr: &mut [u32],
@@ -287,29 +340,22 @@ fn exec(
     pc: usize,
     count: usize,
 ) -> Stepped
-    requires { ⌜ (now classes ≡ classTable) × (at + 12 ≤ length (now commands)) ⌝ }
+    requires { ⌜ (now classes ≡ classTable) × (at + 12 ≤ length (now commands)) × Full (now gpr) (now psr) ⌝ }
     ensures { λ r. ⌜ after (now (gpr .exit)) (now (psr .exit)) r
         ≡ execOf (commandOf (fetched (now (commands .entry)) at)) pc count (banks (now (gpr .entry)) (now (psr .entry))) ⌝ }
 {
     let head = commands[at];
-    let option = commands[at + 1] % 16;
-    let compare = commands[at + 2];
-    let set = commands[at + 3];
-    let a = first(commands, at);
-    let b = second(commands, at);
-    let x = registers::value(gpr, psr, a);
-    let y = registers::value(gpr, psr, b);
     match head / 8 % 4 {
-        0 => exec_branch(head % 8, option, x, y, pc, count),
-        1 => exec_compare(holds(compare, x, y), pc, count),
-        2 => exec_set(gpr, psr, classes, head % 8, set, a, b, x, y, pc),
+        0 => exec_branch(gpr, psr, commands, at, pc, count),
+        1 => exec_compare(gpr, psr, commands, at, pc, count),
+        2 => exec_set(gpr, psr, classes, commands, at, pc),
         _ => go_on(pc),
     }
 }
 
 // Fetches, advances and obeys; past the last command it halts.
 fn obey(gpr: &mut [u32], psr: &mut [u32], classes: &[u8], commands: &[u8], pc: usize) -> Stepped
-    requires { ⌜ now classes ≡ classTable ⌝ }
+    requires { ⌜ (now classes ≡ classTable) × Full (now gpr) (now psr) ⌝ }
     ensures { λ r. ⌜ after (now (gpr .exit)) (now (psr .exit)) r
         ≡ stepOf (now (commands .entry)) pc (banks (now (gpr .entry)) (now (psr .entry))) ⌝ }
 {
@@ -342,7 +388,7 @@ pub fn run_commands(
     pc: usize,
     budget: u32,
 ) -> Ran
-    requires { ⌜ now classes ≡ classTable ⌝ }
+    requires { ⌜ (now classes ≡ classTable) × (length (now gpr) ≡ 4096) × (length (now psr) ≡ 128) ⌝ }
     ensures { λ r. ⌜ after (now (gpr .exit)) (now (psr .exit)) r
         ≡ runOf (now (commands .entry)) budget 0 pc (banks (now (gpr .entry)) (now (psr .entry))) ⌝ }
 {
@@ -402,6 +448,7 @@ fn check(gpr: &[u32], psr: &[u32], commands: &[u8], budget: u32) -> Verdict
 
 // A run by a class table of its own.
 fn run_fresh(gpr: &mut [u32], psr: &mut [u32], commands: &[u8], pc: usize, budget: u32) -> Ran
+    requires { ⌜ Full (now gpr) (now psr) ⌝ }
     ensures { λ r. ⌜ after (now (gpr .exit)) (now (psr .exit)) r
         ≡ runOf (now (commands .entry)) budget 0 pc (banks (now (gpr .entry)) (now (psr .entry))) ⌝ }
 {

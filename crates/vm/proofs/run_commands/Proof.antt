@@ -31,6 +31,12 @@ looped t = tested t .before
 loop-holds : tie.Need-loop-holds Inv-loop μ-loop
 loop-holds c = begins _ _ _ _
 
+obey-requires : tie.Need-obey-requires Inv-loop μ-loop
+obey-requires c κs =
+    let kept = c .before .before .before .loop .inv in
+    let given = c .before .before .before .before .before .before .before .before .pre in
+    (given .0, (kept .general ∙ given .1, kept .status ∙ given .2))
+
 loop-again : tie.Need-loop-again Inv-loop μ-loop
 loop-again c =
     let t = c .before .before .before in
@@ -75,7 +81,7 @@ run-commands-spec =
     Inv-loop
     μ-loop
     loop-holds
-    (λ c κs. search needs)
+    obey-requires
     (λ c. omega arith)
     (λ c κs. search needs)
     (λ c. search needs)

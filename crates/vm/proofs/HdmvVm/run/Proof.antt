@@ -1,5 +1,7 @@
 -- `run` is a run of the whole budget, once the tests of the input have passed. Assumes nothing.
+use mathlib.Core.Path.{sym, _∙_}
 use borrow.Author.Needs.{needs}
+use Rattle.vm.specs.Laws.{fine-banks}
 use Rattle.vm.specs.Rules.{runAnswer}
 use Rattle.vm.proofs.Laws.{refused, done, runs-plainly}
 use Rattle.vm.proofs.HdmvVm.run.Statement.{statement}
@@ -8,6 +10,9 @@ use Rattle.vm.proofs.HdmvVm.run.Tie as tie
 returns : tie.Need-returns
 unfolding runAnswer
 returns c = refused _ _ (c .before .before .before .check .ensures) (c .before .verdict .given .1)
+
+run-fresh-requires : tie.Need-run-fresh-requires
+run-fresh-requires c κs = fine-banks _ _ _ (sym (c .before .before .before .before .check .ensures) ∙ c .before .before .enum-told .given .1)
 
 returns-2 : tie.Need-returns-2
 unfolding runAnswer
@@ -26,7 +31,7 @@ run-spec =
     (λ c. search needs)
     returns
     (λ c. search needs)
-    (λ c κs. search needs)
+    run-fresh-requires
     (λ c κs. search needs)
     (λ c. search needs)
     (λ c. search needs)
