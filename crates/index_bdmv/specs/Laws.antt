@@ -8,7 +8,7 @@ use native.Mathlib.Numerals.{add-one}
 use native.Mathlib.Omega.{arith}
 use lib.Dec.{leb, ltb, eqb}
 use lib.ListN.{length, getD}
-use borrow.Author.Tests.{le-leb, lt-leb, lt-ltb, le-ltb, leb-true, leb-false, eq-eqb, ne-eqb, eqb-true, eqb-false}
+use borrow.Author.Tests.{le-leb, lt-leb, lt-ltb, le-ltb, leb-true, leb-false, eq-eqb, ne-eqb, eqb-true, eqb-false, ltb-false}
 use Rattle.common.specs.declared.Reader.{Reader}
 use Rattle.common.specs.declared.Moved.{Moved}
 use Rattle.common.specs.declared.Moved.the-variants as moved
@@ -35,6 +35,11 @@ both-fine (Refused r) b e = let z : _≡_ {A = ℕ} 0 1 = cc in absurd (omega ar
 yes-fine : (t : Bool) (a b : Verdict) (r : Refusal) → b ≡ Refused r → cond t a b ≡ Fine → (t ≡ true) × (a ≡ Fine)
 yes-fine true a b r n e = (refl, e)
 yes-fine false a b r n e = let z : _≡_ {A = ℕ} 0 1 = cc in absurd (omega arith)
+
+-- a test that refuses before one that passes
+no-fine : (t : Bool) (a b : Verdict) (r : Refusal) → a ≡ Refused r → cond t a b ≡ Fine → (t ≡ false) × (b ≡ Fine)
+no-fine true a b r n e = let z : _≡_ {A = ℕ} 0 1 = cc in absurd (omega arith)
+no-fine false a b r n e = (refl, e)
 
 -- ---- entries
 
@@ -143,6 +148,10 @@ module _ (s : List ℕ) where
   unfolding appInfoVerdict
   app-fine h g = let l : 46 ≤ length s = omega arith in simp (le-ltb _ _ l, le-ltb _ _ h, le-leb _ _ g)
 
+  pub app-in : appInfoVerdict s ≡ Fine → 46 ≤ length s
+  unfolding appInfoVerdict
+  app-in e = ltb-false _ _ (no-fine (ltb (length s) 46) (Refused BadBody) _ BadBody refl e .0)
+
   -- the stated end of the Indexes
   module _ (p : ℕ) where
     pub stated-short : length s < p + 4 → statedVerdict s p ≡ Refused BadBody
@@ -205,18 +214,7 @@ good s v =
 
 -- ---- where an entry stands
 
--- the place that a selection found; it is a small number, whatever the file
-pub record Selected (s : List ℕ) (e : ℕ) (r : Place) : Type 0 where
-  pub is : r ≡ placeOf s e
-  pub near : (at : ℕ) → r ≡ At at → at ≤ 8589934592
-
 module _ (s : List ℕ) (e : ℕ) where
-  pub selected-at : (n : ℕ) → placeOf s e ≡ At n → n ≤ 8589934592 → Selected s e (At n)
-  selected-at n p h = record { is = sym p; near = λ at q. let m : n ≡ at = cc in omega arith }
-
-  pub selected-none : placeOf s e ≡ Nowhere → Selected s e Nowhere
-  selected-none p = record { is = sym p; near = λ at q. let z : _≡_ {A = ℕ} 0 1 = cc in absurd (omega arith) }
-
   pub place-first : e ≡ 65536 → placeOf s e ≡ At (startOf s + 4)
   unfolding placeOf
   place-first p = simp (eq-eqb e 65536 p)

@@ -4,10 +4,9 @@ use common::Half;
 use common::Moved;
 use common::Reader;
 use common::Word;
-use common::byte_at;
-use common::half_at;
+use common::be16;
+use common::be32;
 use common::header;
-use common::word_at;
 use error::Refusal;
 use error::Verdict;
 use utf8::is_utf8_name;
@@ -17,7 +16,7 @@ ghost use lib.ListN.{length};
 ghost use Rattle.error.specs.Rules.{firstOf};
 ghost use Rattle.error.specs.declared.Verdict.the-variants.{Fine};
 ghost use Rattle.index_bdmv.specs.Rules.{appInfoVerdict, appInfoOf, entryVerdict, entriesVerdict, startOf, statedVerdict, indexesVerdict, verdictOf, titleCount, leadAt, resolveOf, objectAt, indexOf, parseOf, isEntry, entryFrom, placeOf, entryOf, nameFrom, nameOf, resolveMovieObject};
-ghost use Rattle.index_bdmv.specs.Laws.{movedAs, titlesFrom, Selected};
+ghost use Rattle.index_bdmv.specs.Laws.{movedAs, titlesFrom};
 
 // The letters INDX.
 const INDX: u32 = 0x494E4458;
@@ -256,7 +255,7 @@ fn parse_object(index: &[u8], entry: Reader) -> Moved
     Moved::Refused(Refusal::BadEntry)
 }
 
-// The object that an entry leads to; first playback, top menu and titles alike.
+// The object that an entry of an accepted file leads to; first playback, top menu and titles alike.
 pub fn resolve(index: &[u8], entry: u32) -> Lead
     requires { ⌜ verdictOf (now index) ≡ Fine ⌝ }
     ensures { λ r. ⌜ r ≡ resolveOf (now (index .entry)) entry ⌝ }
@@ -268,17 +267,26 @@ pub fn resolve(index: &[u8], entry: u32) -> Lead
     }
 }
 
-// The number of titles.
-pub fn title_count(index: &[u8]) -> u16
+// Where the Indexes start.
+fn start_of(index: &[u8]) -> usize
+    requires { ⌜ verdictOf (now index) ≡ Fine ⌝ }
+    ensures { λ r. ⌜ r ≡ startOf (now (index .entry)) ⌝ }
+{
+    be32(index, 8) as usize
+}
+
+fn title_count(index: &[u8]) -> u16
+    requires { ⌜ verdictOf (now index) ≡ Fine ⌝ }
     ensures { λ r. ⌜ r ≡ titleCount (now (index .entry)) ⌝ }
 {
-    half_at(index, word_at(index, 8) as usize + 28)
+    be16(index, start_of(index) + 28)
 }
 
 fn place_of(index: &[u8], entry: u32) -> Place
-    ensures { λ r. ⌜ Selected (now (index .entry)) entry r ⌝ }
+    requires { ⌜ verdictOf (now index) ≡ Fine ⌝ }
+    ensures { λ r. ⌜ r ≡ placeOf (now (index .entry)) entry ⌝ }
 {
-    let start = word_at(index, 8) as usize;
+    let start = start_of(index);
     if entry == FIRST_PLAYBACK {
         return Place::At(start + 4);
     }
@@ -296,11 +304,11 @@ fn place_of(index: &[u8], entry: u32) -> Place
 
 // An HDMV entry leads to its object.
 fn lead_at(index: &[u8], at: usize) -> Lead
-    requires { ⌜ at ≤ 8589934592 ⌝ }
+    requires { ⌜ at + 12 ≤ length (now index) ⌝ }
     ensures { λ r. ⌜ r ≡ leadAt (now (index .entry)) at ⌝ }
 {
-    if byte_at(index, at) / 64 == 1 {
-        return Lead::Object(half_at(index, at + 4));
+    if index[at] / 64 == 1 {
+        return Lead::Object(be16(index, at + 4));
     }
     Lead::Nothing
 }
@@ -322,12 +330,13 @@ fn is_entry(entry: u32) -> Verdict
 }
 
 fn index_of(index: &[u8]) -> IndexBdmv
+    requires { ⌜ verdictOf (now index) ≡ Fine ⌝ }
     ensures { λ r. ⌜ r ≡ indexOf (now (index .entry)) ⌝ }
 {
-    let start = word_at(index, 8) as usize;
+    let start = start_of(index);
     IndexBdmv {
-        version: word_at(index, 4),
-        app_info: app_info_of(byte_at(index, 44), byte_at(index, 45)),
+        version: be32(index, 4),
+        app_info: app_info_of(index[44], index[45]),
         first_playback_title: object_at(index, start + 4),
         menu_title: object_at(index, start + 16),
         titles: title_count(index),
@@ -347,20 +356,22 @@ fn app_info_of(a: u8, b: u8) -> AppInfoBdmv
 }
 
 fn object_at(index: &[u8], at: usize) -> IndexObjectType
-    requires { ⌜ at ≤ 8589934592 ⌝ }
+    requires { ⌜ at + 12 ≤ length (now index) ⌝ }
     ensures { λ r. ⌜ r ≡ objectAt (now (index .entry)) at ⌝ }
 {
-    let playback_type = byte_at(index, at + 2) / 64;
-    if byte_at(index, at) / 64 == 1 {
+    let playback_type = index[at + 2] / 64;
+    if index[at] / 64 == 1 {
         return IndexObjectType::Hdmv {
             playback_type,
-            movie_object_id_ref: half_at(index, at + 4),
+            movie_object_id_ref: be16(index, at + 4),
         };
     }
     IndexObjectType::BdJ { playback_type }
 }
 
-fn entry_of(index: &[u8], entry: u32) -> IndexEntry
+// What an entry of an accepted file says.
+pub fn entry_of(index: &[u8], entry: u32) -> IndexEntry
+    requires { ⌜ verdictOf (now index) ≡ Fine ⌝ }
     ensures { λ r. ⌜ r ≡ entryFrom (now (index .entry)) (placeOf (now (index .entry)) entry) ⌝ }
 {
     let place = place_of(index, entry);
@@ -370,7 +381,8 @@ fn entry_of(index: &[u8], entry: u32) -> IndexEntry
     }
 }
 
-fn name_of(index: &[u8], entry: u32) -> &[u8]
+// The five bytes of a BD-J entry's name in an accepted file.
+pub fn name_of(index: &[u8], entry: u32) -> &[u8]
     requires { ⌜ verdictOf (now index) ≡ Fine ⌝ }
     ensures { λ r. ⌜ now r ≡ nameFrom (now (index .entry)) (placeOf (now (index .entry)) entry) ⌝ }
 {

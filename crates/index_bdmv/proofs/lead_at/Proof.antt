@@ -1,15 +1,13 @@
-use mathlib.Core.Path.{sym, _∙_, ap}
-use Prim.Native.Nat.{ℕ, _/_}
 use borrow.Author.Needs.{needs}
 use borrow.Author.Tests.{eq-eqb, ne-eqb}
 use Rattle.index_bdmv.proofs.lead_at.Statement.{statement}
 use Rattle.index_bdmv.proofs.lead_at.Tie as tie
 
 returns : tie.Need-returns
-returns c = rw (eq-eqb _ _ (ap (λ (b : ℕ). b / 64) (sym (c .before .before .byte-at .ensures)) ∙ c .before .if1 .taken)) (rw (c .half-at .ensures))
+returns c = rw (eq-eqb _ _ (c .before .if1 .taken)) (rw (c .be16 .ensures))
 
 returns-2 : tie.Need-returns-2
-returns-2 c = rw (ne-eqb _ _ (λ e. c .if1 .left (ap (λ (b : ℕ). b / 64) (c .before .byte-at .ensures) ∙ e)))
+returns-2 c = rw (ne-eqb _ _ (c .if1 .left))
 
 pub lead-at-spec : {M : Type 1} → statement M
-lead-at-spec = tie.close (tie.spec (λ c κs. search needs) (λ c. search needs) (λ c κs. search needs) returns returns-2)
+lead-at-spec = tie.close (tie.spec (λ c. search needs) (λ c. search needs) (λ c κs. search needs) returns returns-2)

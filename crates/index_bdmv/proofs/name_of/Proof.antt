@@ -15,13 +15,13 @@ use Rattle.index_bdmv.proofs.name_of.Tie as tie
 
 -- the entry's place, and that its twelve bytes are there
 found : (c : tie.After-place) → placeOf (now (c .before .before .before .before .args .index)) (c .before .before .before .before .args .entry) ≡ At (c .place .given .0 .0)
-found c = sym (c .before .before .place-of .ensures .is) ∙ c .place .given .1
+found c = sym (c .before .before .place-of .ensures) ∙ c .place .given .1
 
 inside : (c : tie.After-place) → c .place .given .0 .0 + 12 ≤ length (now (c .before .before .before .before .args .index))
 inside c = place-in _ _ (c .before .before .before .before .pre) _ (found c)
 
 returns : tie.Need-returns
-returns c = rw (sym (c .before .before .before .place-of .ensures .is) ∙ c .before .enum-told .given .1)
+returns c = rw (sym (c .before .before .before .place-of .ensures) ∙ c .before .enum-told .given .1)
 
 shared-slice-read-if1 : tie.Need-shared-slice-read-if1
 shared-slice-read-if1 c = omega (arith, inside (c .before .before))
