@@ -22,7 +22,7 @@ use Rattle.mobj_runner.specs.declared.Turn.{Turn}
 use Rattle.mobj_runner.specs.declared.Turn.the-variants.{Go, Stop}
 use Rattle.mobj_runner.specs.Rules.{World, world, follows, returned, jumped, called, acted, turnOf, driveOf, ended, Settled}
 
-stops : {o : RunOutcome} {s t : Session} → Stop o s ≡ Go t → ⊥
+stops : {s t : Session} {o : RunOutcome} → Stop s o ≡ Go t → ⊥
 stops h = let z : _≡_ {A = ℕ} 0 1 = cc in omega arith
 
 -- with no transition left no turn goes on
@@ -44,11 +44,11 @@ module _ (file : List ℕ) (steps : ℕ) where
   turn-charged (suc left) w t h = omega arith
 
   -- a turn that stops ends the drive, and one that goes on leaves the rest of it
-  pub drive-stop : (left : ℕ) (w : World Session) (o : RunOutcome) (s : Session) (r : Banks) (f : List ℕ)
-      → world (Stop o s) r f ≡ turnOf file steps left w → world (ended o s) r f ≡ driveOf file steps left w
+  pub drive-stop : (left : ℕ) (w : World Session) (s : Session) (o : RunOutcome) (r : Banks) (f : List ℕ)
+      → world (Stop s o) r f ≡ turnOf file steps left w → world (ended o s) r f ≡ driveOf file steps left w
   unfolding driveOf
-  drive-stop zero w o s r f e = rw (← e)
-  drive-stop (suc left) w o s r f e = rw (← e)
+  drive-stop zero w s o r f e = rw (← e)
+  drive-stop (suc left) w s o r f e = rw (← e)
 
   pub drive-go : (left : ℕ) (w : World Session) (s : Session) (r : Banks) (f : List ℕ)
       → world (Go s) r f ≡ turnOf file steps left w → driveOf file steps (left - 1) (world s r f) ≡ driveOf file steps left w
@@ -57,13 +57,15 @@ module _ (file : List ℕ) (steps : ℕ) where
   drive-go (suc left) w s r f e = rw (← e, sub-one)
 
 -- a call that is refused settles nothing else
-pub settled-refused : {file places frames : List ℕ} {answer expected : Verdict} {r : Refusal} → answer ≡ Refused r → expected ≡ Refused r
-    → Settled file places frames answer expected
+pub settled-refused : {file places gpr psr frames : List ℕ} {answer expected : Verdict} {r : Refusal} → answer ≡ Refused r
+    → expected ≡ Refused r → Settled file places gpr psr frames answer expected
 settled-refused p q =
     record {
       judged = p ∙ sym q;
       fine = λ h. let z : _≡_ {A = ℕ} 0 1 = cc in absurd (omega arith);
       placed = λ h. let z : _≡_ {A = ℕ} 0 1 = cc in absurd (omega arith);
+      general = λ h. let z : _≡_ {A = ℕ} 0 1 = cc in absurd (omega arith);
+      status = λ h. let z : _≡_ {A = ℕ} 0 1 = cc in absurd (omega arith);
       room = λ h. let z : _≡_ {A = ℕ} 0 1 = cc in absurd (omega arith);
     }
 

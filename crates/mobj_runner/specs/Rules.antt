@@ -79,15 +79,15 @@ follows (E.Branch q) = asked q
 -- A return pops an object frame, or finishes. It is charged with its frame already popped.
 unfoldable pub returned : List ℕ → Session → ℕ → Turn
 returned f s left =
-    cond (eqb (s .odepth) 0) (Stop O.Finished s)
-    (cond (eqb left 0) (Stop O.BudgetExhausted (moved s (s .object) (s .pc) (s .odepth - 1)))
+    cond (eqb (s .odepth) 0) (Stop s O.Finished)
+    (cond (eqb left 0) (Stop (moved s (s .object) (s .pc) (s .odepth - 1)) O.BudgetExhausted)
     (Go (moved s (objectFrame f (s .odepth - 1) .object) (objectFrame f (s .odepth - 1) .pc) (s .odepth - 1))))
 
 -- JumpObject: charge, then object on disc or bad object; the object frames stay.
 unfoldable pub jumped : ℕ → Session → ℕ → ℕ → Turn
 jumped n s o left =
-    cond (eqb left 0) (Stop O.BudgetExhausted s)
-    (cond (leb n o) (Stop (O.BadObject o) s) (Go (moved s o 0 (s .odepth))))
+    cond (eqb left 0) (Stop s O.BudgetExhausted)
+    (cond (leb n o) (Stop s (O.BadObject o)) (Go (moved s o 0 (s .odepth))))
 
 -- CallObject: charge, then object on disc or bad object, then room or object stack full, then push.
 abbrev pub frameOf : Session → ObjectFrame
@@ -95,16 +95,16 @@ frameOf s = record { object = s .object; pc = s .pc }
 
 unfoldable pub called : List ℕ → ℕ → Session → ℕ → ℕ → Framed
 called f n s o left =
-    cond (eqb left 0) (framed (Stop O.BudgetExhausted s) f)
-    (cond (leb n o) (framed (Stop (O.BadObject o) s) f)
-    (cond (leb (objectRoom f) (s .odepth)) (framed (Stop O.ObjectStackFull s) f)
+    cond (eqb left 0) (framed (Stop s O.BudgetExhausted) f)
+    (cond (leb n o) (framed (Stop s (O.BadObject o)) f)
+    (cond (leb (objectRoom f) (s .odepth)) (framed (Stop s O.ObjectStackFull) f)
     (framed (Go (moved s o 0 (s .odepth + 1))) (pushedObject f (s .odepth) (frameOf s)))))
 
 abbrev pub acted : List ℕ → ℕ → Session → ℕ → Follow → Framed
 acted f n s left Return = framed (returned f s left) f
 acted f n s left (Jump o) = framed (jumped n s o left) f
 acted f n s left (Call o) = called f n s o left
-acted f n s left (Ask q) = framed (Stop (O.Request q) s) f
+acted f n s left (Ask q) = framed (Stop s (O.Request q)) f
 
 -- One turn: the object's commands, with their steps counted anew, and what follows their end.
 
@@ -126,7 +126,7 @@ abbrev pub ended : RunOutcome → Session → RunEnd
 ended o s = record { outcome = o; session = s }
 
 abbrev pub continued : Turn → World Turn → (World Session → World RunEnd) → World RunEnd
-continued (Stop o s) t more = world (ended o s) (t .regs) (t .frames)
+continued (Stop s o) t more = world (ended o s) (t .regs) (t .frames)
 continued (Go s) t more = more (world s (t .regs) (t .frames))
 
 unfoldable pub driveOf : List ℕ → ℕ → ℕ → World Session → World RunEnd
@@ -168,16 +168,21 @@ answered (verdict.Refused r) d w = world (A.Refused r) (w .regs) (w .frames)
 unfoldable pub answerOf : List ℕ → Budgets → List ℕ → Start → World Session → World RunAnswer
 answerOf file b titles start w = answered (verdictFor file b titles (waits (w .it) start) w) (begun file b w start) w
 
--- What a drive rests on: the class table, a file that is read with a table of its places, and frames that can be counted.
-pub record Ready (classes file places frames : List ℕ) : Type 0 where
+-- What a drive rests on: the class table, a file that is read with a table of its places, banks of their lengths, and frames
+-- that can be counted.
+pub record Ready (classes file places gpr psr frames : List ℕ) : Type 0 where
   pub classed : classes ≡ classTable
   pub fine : verdictOf file ≡ verdict.Fine
   pub placed : Placed file places
+  pub general : length gpr ≡ 4096
+  pub status : length psr ≡ 128
   pub room : length frames ≤ 131073
 
 -- What the tests before a drive settle: the first refusal, and, where there is none, all that a drive rests on but the classes.
-pub record Settled (file places frames : List ℕ) (answer expected : Verdict) : Type 0 where
+pub record Settled (file places gpr psr frames : List ℕ) (answer expected : Verdict) : Type 0 where
   pub judged : answer ≡ expected
   pub fine : answer ≡ verdict.Fine → verdictOf file ≡ verdict.Fine
   pub placed : answer ≡ verdict.Fine → Placed file places
+  pub general : answer ≡ verdict.Fine → length gpr ≡ 4096
+  pub status : answer ≡ verdict.Fine → length psr ≡ 128
   pub room : answer ≡ verdict.Fine → length frames ≤ 131073

@@ -30,10 +30,10 @@ pub enum Follow {
     Ask(NavRequest),
 }
 
-// How a turn ends: with a session to go on from, or with an outcome.
+// How a turn ends: with a session to go on from, or with an outcome. The session stands at the same place in both.
 pub enum Turn {
     Go(Session),
-    Stop(RunOutcome, Session),
+    Stop(Session, RunOutcome),
 }
 
 pub struct RunEnd {
@@ -93,12 +93,12 @@ fn leave_object(frames: &[u32], s: Session, left: u32) -> Turn
 {
     let depth = s.odepth;
     if depth == 0 {
-        return Turn::Stop(RunOutcome::Finished, s);
+        return Turn::Stop(s, RunOutcome::Finished);
     }
     let mut t = s;
     t.odepth = depth - 1;
     if left == 0 {
-        return Turn::Stop(RunOutcome::BudgetExhausted, t);
+        return Turn::Stop(t, RunOutcome::BudgetExhausted);
     }
     let frame = ObjectFrame::read(frames, depth - 1);
     t.object = frame.object;
@@ -110,10 +110,10 @@ fn jump(count: u32, s: Session, object: u32, left: u32) -> Turn
     ensures { λ r. ⌜ r ≡ jumped count s object left ⌝ }
 {
     if left == 0 {
-        return Turn::Stop(RunOutcome::BudgetExhausted, s);
+        return Turn::Stop(s, RunOutcome::BudgetExhausted);
     }
     if count <= object {
-        return Turn::Stop(RunOutcome::BadObject(object), s);
+        return Turn::Stop(s, RunOutcome::BadObject(object));
     }
     let mut t = s;
     t.object = object;
@@ -126,14 +126,14 @@ fn call(frames: &mut [u32], count: u32, s: Session, object: u32, left: u32) -> T
     ensures { λ r. ⌜ framed r (now (frames .exit)) ≡ called (now (frames .entry)) count s object left ⌝ }
 {
     if left == 0 {
-        return Turn::Stop(RunOutcome::BudgetExhausted, s);
+        return Turn::Stop(s, RunOutcome::BudgetExhausted);
     }
     if count <= object {
-        return Turn::Stop(RunOutcome::BadObject(object), s);
+        return Turn::Stop(s, RunOutcome::BadObject(object));
     }
     let depth = s.odepth;
     if frames.len() / 2 <= depth as usize {
-        return Turn::Stop(RunOutcome::ObjectStackFull, s);
+        return Turn::Stop(s, RunOutcome::ObjectStackFull);
     }
     let frame = ObjectFrame {
         object: s.object,
@@ -155,7 +155,7 @@ fn act(frames: &mut [u32], count: u32, s: Session, next: Follow, left: u32) -> T
         Follow::Return => leave_object(frames, s, left),
         Follow::Jump(object) => jump(count, s, object, left),
         Follow::Call(object) => call(frames, count, s, object, left),
-        Follow::Ask(request) => Turn::Stop(RunOutcome::Request(request), s),
+        Follow::Ask(request) => Turn::Stop(s, RunOutcome::Request(request)),
     }
 }
 
@@ -171,7 +171,7 @@ fn one_turn(
     steps: u32,
     left: u32,
 ) -> Turn
-    requires { ⌜ Ready (now classes) (now file) (now places) (now frames) ⌝ }
+    requires { ⌜ Ready (now classes) (now file) (now places) (now gpr) (now psr) (now frames) ⌝ }
     ensures { λ r. ⌜ world r (banks (now (gpr .exit)) (now (psr .exit))) (now (frames .exit))
         ≡ turnOf (now (file .entry)) steps left (world s (banks (now (gpr .entry)) (now (psr .entry))) (now (frames .entry))) ⌝ }
 {
@@ -199,7 +199,7 @@ pub fn drive(
     steps: u32,
     objects: u32,
 ) -> RunEnd
-    requires { ⌜ Ready (now classes) (now file) (now places) (now frames) ⌝ }
+    requires { ⌜ Ready (now classes) (now file) (now places) (now gpr) (now psr) (now frames) ⌝ }
     ensures { λ r. ⌜ world r (banks (now (gpr .exit)) (now (psr .exit))) (now (frames .exit))
         ≡ driveOf (now (file .entry)) steps objects (world s (banks (now (gpr .entry)) (now (psr .entry))) (now (frames .entry))) ⌝ }
 {
@@ -211,7 +211,7 @@ pub fn drive(
                 at = next;
                 left = left - 1;
             }
-            Turn::Stop(outcome, session) => {
+            Turn::Stop(session, outcome) => {
                 return RunEnd { outcome, session };
             }
         }
@@ -229,7 +229,7 @@ fn begin(
     start: Start,
     b: Budgets,
 ) -> RunEnd
-    requires { ⌜ Ready (now classes) (now file) (now places) (now frames) ⌝ }
+    requires { ⌜ Ready (now classes) (now file) (now places) (now gpr) (now psr) (now frames) ⌝ }
     ensures { λ r. ⌜ world r (banks (now (gpr .exit)) (now (psr .exit))) (now (frames .exit))
         ≡ begun (now (file .entry)) b (world s (banks (now (gpr .entry)) (now (psr .entry))) (now (frames .entry))) start ⌝ }
 {
@@ -275,7 +275,7 @@ fn verdict(
     b: Budgets,
 ) -> Verdict
     requires { ⌜ countOf (now file) ≤ length (now places) ⌝ }
-    ensures { λ r. ⌜ Settled (now (file .entry)) (now (places .exit)) (now (frames .entry)) r
+    ensures { λ r. ⌜ Settled (now (file .entry)) (now (places .exit)) (now (gpr .entry)) (now (psr .entry)) (now (frames .entry)) r
         (verdictFor (now (file .entry)) b (now (titles .entry)) pending (world s (banks (now (gpr .entry)) (now (psr .entry))) (now (frames .entry)))) ⌝ }
 {
     let buffers = session::buffers_verdict(gpr, psr, frames, titles);

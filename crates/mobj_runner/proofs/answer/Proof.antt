@@ -7,11 +7,14 @@ use Rattle.mobj_runner.proofs.answer.Tie as tie
 begin-requires : tie.Need-begin-requires
 begin-requires c κs =
     let fine = c .before .before .before .before .before .before .enum-told .given .1 in
+    let found = c .before .before .before .before .before .before .before .before .before .before .verdict .ensures in
     record {
       classed = c .before .before .before .before .before .classes .ensures;
-      fine = c .before .before .before .before .before .before .before .before .before .before .verdict .ensures .fine fine;
-      placed = c .before .before .before .before .before .before .before .before .before .before .verdict .ensures .placed fine;
-      room = c .before .before .before .before .before .before .before .before .before .before .verdict .ensures .room fine;
+      fine = found .fine fine;
+      placed = found .placed fine;
+      general = found .general fine;
+      status = found .status fine;
+      room = found .room fine;
     }
 
 returns : tie.Need-returns

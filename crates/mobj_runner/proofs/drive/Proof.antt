@@ -18,7 +18,17 @@ abbrev μ-loop : tie.MeasureT-loop
 μ-loop gpr₀ psr₀ frames₀ classes file places steps objects at₀ left₀ gpr psr frames at left = left
 
 one-turn-requires : tie.Need-one-turn-requires Inv-loop μ-loop
-one-turn-requires c κs = record { classed = c .before .before .before .before .before .before .before .before .before .before .pre .classed; fine = c .before .before .before .before .before .before .before .before .before .before .pre .fine; placed = c .before .before .before .before .before .before .before .before .before .before .pre .placed; room = omega (arith, c .before .before .before .loop .inv .2, c .before .before .before .before .before .before .before .before .before .before .pre .room) }
+one-turn-requires c κs =
+    let ready = c .before .before .before .before .before .before .before .before .before .before .pre in
+    let inv = c .before .before .before .loop .inv in
+    record {
+      classed = ready .classed;
+      fine = ready .fine;
+      placed = ready .placed;
+      general = inv .0 ∙ ready .general;
+      status = inv .1 ∙ ready .status;
+      room = omega (arith, inv .2, ready .room);
+    }
 
 sub-left : tie.Need-sub-left Inv-loop μ-loop
 sub-left c = turn-charged _ _ _ _ _ (ap (λ (x : World Turn). x .it) (sym (rw (c .before .next .given .1) at (c .before .before .before .before .before .before .before .before .before .one-turn .ensures))))
@@ -30,7 +40,7 @@ loop-again : tie.Need-loop-again Inv-loop μ-loop
 loop-again c = (search needs, search needs, search needs, drive-go _ _ _ _ _ _ _ (rw (c .before .next .given .1) at (c .before .before .before .before .before .before .before .before .before .one-turn .ensures)) ∙ c .before .before .before .before .before .before .before .before .before .before .before .before .before .loop .inv .3)
 
 returns : tie.Need-returns Inv-loop μ-loop
-returns c = drive-stop _ _ _ _ _ _ _ _ (rw (c .before .outcome .given .1) at (c .before .before .before .before .before .before .before .before .before .one-turn .ensures)) ∙ c .before .before .before .before .before .before .before .before .before .before .before .before .before .loop .inv .3
+returns c = drive-stop _ _ _ _ _ _ _ _ (rw (c .before .session .given .1) at (c .before .before .before .before .before .before .before .before .before .one-turn .ensures)) ∙ c .before .before .before .before .before .before .before .before .before .before .before .before .before .loop .inv .3
 
 pub drive-spec : {M : Type 1} → statement M
 drive-spec =

@@ -1,10 +1,10 @@
 use mathlib.Core.List.{List}
-use Prim.Native.Nat.{ℕ}
 use mathlib.Core.Path.{ap}
+use Prim.Native.Nat.{ℕ}
 use native.Mathlib.Omega.{arith}
 use borrow.Author.Needs.{needs}
 use Rattle.vm.specs.declared.Ran.{Ran}
-use Rattle.mobj_runner.specs.Rules.{turnOf}
+use Rattle.mobj_runner.specs.Rules.{joined, turnOf}
 use Rattle.movie_object.specs.Laws.{commands-few}
 use Rattle.movie_object.specs.Rules.{commandsOf}
 use Rattle.vm.specs.Laws.{run-within}
@@ -28,7 +28,7 @@ cast-t c =
 
 returns : tie.Need-returns
 unfolding turnOf
-returns c = rw (← c .before .before .before .before .before .before .before .before .before .before .before .before .before .before .commands-at .ensures, ← c .before .before .before .before .before .before .before .before .before .before .before .run-commands .ensures, ← c .before .before .before .before .before .before .object-count .ensures, ← c .before .before .before .before .before .what-follows .ensures, ← c .before .before .act .ensures)
+returns c = rw (← c .before .before .before .before .before .before .before .before .before .before .before .before .before .before .commands-at .ensures, ← c .before .before .before .before .before .before .before .before .before .before .before .run-commands .ensures, ← c .before .before .before .before .before .before .object-count .ensures, ← c .before .before .before .before .before .what-follows .ensures) (ap (joined _) (c .before .before .act .ensures))
 
 pub one-turn-spec : {M : Type 1} → statement M
 one-turn-spec =

@@ -2,7 +2,7 @@ use mathlib.Core.Path.{_≡_, refl, sym, ap, _∙_}
 use borrow.Author.Needs.{needs}
 use Rattle.mobj_runner.specs.Laws.{settled-refused}
 use Rattle.mobj_runner.specs.Rules.{verdictFor}
-use Rattle.session.specs.Laws.{buffers-room}
+use Rattle.session.specs.Laws.{buffers-room, buffers-banks}
 use Rattle.mobj_runner.proofs.verdict.Statement.{statement}
 use Rattle.mobj_runner.proofs.verdict.Tie as tie
 
@@ -21,11 +21,15 @@ returns-3 c = settled-refused (c .enum-told6 .given .1) (rw (sym (c .before .bef
 returns-4 : tie.Need-returns-4
 unfolding verdictFor
 returns-4 c =
+    let buffers = sym (c .before .before .before .before .before .before .before .before .before .before .before .before .before .buffers-verdict .ensures) ∙ c .before .before .before .before .before .before .before .before .before .before .before .enum-told .given .1 in
+    let objects = sym (c .before .before .before .before .before .before .walk-places .ensures .judged) ∙ c .before .before .enum-told5 .given .1 in
     record {
-      judged = c .session-verdict .ensures ∙ rw (sym (c .before .before .before .before .before .before .before .before .before .before .before .before .before .buffers-verdict .ensures) ∙ c .before .before .before .before .before .before .before .before .before .before .before .enum-told .given .1, sym (c .before .before .before .before .before .before .before .before .before .before .verdict .ensures) ∙ c .before .before .before .before .before .before .before .before .enum-told3 .given .1, sym (c .before .before .before .before .before .before .walk-places .ensures .judged) ∙ c .before .before .enum-told5 .given .1, c .before .object-count .ensures);
-      fine = λ h. sym (c .before .before .before .before .before .before .walk-places .ensures .judged) ∙ c .before .before .enum-told5 .given .1;
+      judged = c .session-verdict .ensures ∙ rw (buffers, sym (c .before .before .before .before .before .before .before .before .before .before .verdict .ensures) ∙ c .before .before .before .before .before .before .before .before .enum-told3 .given .1, objects, c .before .object-count .ensures);
+      fine = λ h. objects;
       placed = λ h. c .before .before .before .before .before .before .walk-places .ensures .placed (c .before .before .enum-told5 .given .1) (rw (c .before .before .before .before .before .before .walk-places .kept .1 .0) (c .before .before .before .before .before .before .before .before .before .before .before .before .before .before .before .before .before .before .before .before .pre));
-      room = λ h. buffers-room _ _ _ _ (sym (c .before .before .before .before .before .before .before .before .before .before .before .before .before .buffers-verdict .ensures) ∙ c .before .before .before .before .before .before .before .before .before .before .before .enum-told .given .1) .0;
+      general = λ h. buffers-banks _ _ _ _ buffers .0;
+      status = λ h. buffers-banks _ _ _ _ buffers .1;
+      room = λ h. buffers-room _ _ _ _ buffers .0;
     }
 
 pub verdict-spec : {M : Type 1} → statement M
