@@ -21,7 +21,7 @@ use Rattle.nav_driver.specs.declared.Turn.{Turn}
 use Rattle.nav_driver.specs.declared.Turn.the-variants.{Go, Stop}
 use Rattle.nav_driver.specs.Rules.{Seeded, seeded, follows, jumped, called, returned, acted, objectSide, Rooms, rooms, turnOf, titlesOf, ended, Settled}
 
-stops : {o : DriveOutcome} {s t : Session} → Stop o s ≡ Go t → ⊥
+stops : {s t : Session} {o : DriveOutcome} → Stop s o ≡ Go t → ⊥
 stops h = let z : _≡_ {A = ℕ} 0 1 = cc in omega arith
 
 -- with no transition left no title turn goes on
@@ -43,11 +43,11 @@ module _ (x file : List ℕ) (b : Budgets) where
   turn-charged (suc left) w t h = omega arith
 
   -- a turn that stops ends the drive, and one that goes on leaves the rest of it
-  pub titles-stop : (left : ℕ) (w : Rooms Session) (o : DriveOutcome) (s : Session) (r : Banks) (f t : List ℕ)
-      → rooms (Stop o s) r f t ≡ turnOf x file b left w → rooms (ended o s) r f t ≡ titlesOf x file b left w
+  pub titles-stop : (left : ℕ) (w : Rooms Session) (s : Session) (o : DriveOutcome) (r : Banks) (f t : List ℕ)
+      → rooms (Stop s o) r f t ≡ turnOf x file b left w → rooms (ended o s) r f t ≡ titlesOf x file b left w
   unfolding titlesOf
-  titles-stop zero w o s r f t e = rw (← e)
-  titles-stop (suc left) w o s r f t e = rw (← e)
+  titles-stop zero w s o r f t e = rw (← e)
+  titles-stop (suc left) w s o r f t e = rw (← e)
 
   pub titles-go : (left : ℕ) (w : Rooms Session) (s : Session) (r : Banks) (f t : List ℕ)
       → rooms (Go s) r f t ≡ turnOf x file b left w → titlesOf x file b (left - 1) (rooms s r f t) ≡ titlesOf x file b left w
@@ -56,12 +56,15 @@ module _ (x file : List ℕ) (b : Budgets) where
   titles-go (suc left) w s r f t e = rw (← e, sub-one)
 
 -- a call that is refused settles nothing else
-pub settled-refused : {file places frames titles : List ℕ} {answer expected : Verdict} {r : Refusal} → answer ≡ Refused r → expected ≡ Refused r
-    → Settled file places frames titles answer expected
+pub settled-refused : {x file places gpr psr frames titles : List ℕ} {answer expected : Verdict} {r : Refusal} → answer ≡ Refused r
+    → expected ≡ Refused r → Settled x file places gpr psr frames titles answer expected
 settled-refused p q =
     record {
       judged = p ∙ sym q;
+      index = λ h. let z : _≡_ {A = ℕ} 0 1 = cc in absurd (omega arith);
       fine = λ h. let z : _≡_ {A = ℕ} 0 1 = cc in absurd (omega arith);
       placed = λ h. let z : _≡_ {A = ℕ} 0 1 = cc in absurd (omega arith);
+      general = λ h. let z : _≡_ {A = ℕ} 0 1 = cc in absurd (omega arith);
+      status = λ h. let z : _≡_ {A = ℕ} 0 1 = cc in absurd (omega arith);
       room = λ h. let z : _≡_ {A = ℕ} 0 1 = cc in absurd (omega arith);
     }

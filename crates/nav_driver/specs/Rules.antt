@@ -95,19 +95,19 @@ follows R.ObjectStackFull = End D.ObjectStackFull
 unfoldable pub entered : List ℕ → ℕ → Session → ℕ → ℕ → Seeded
 entered p n s e o =
     seeded
-    (cond (leb n o) (Stop (D.BadObject o) (session e (s .object) (s .pc) (s .odepth) (s .tdepth) (s .pending)))
+    (cond (leb n o) (Stop (session e (s .object) (s .pc) (s .odepth) (s .tdepth) (s .pending)) (D.BadObject o))
     (Go (session e o 0 0 (s .tdepth) (s .pending))))
     (set p 4 (titleValue e))
 
 -- JumpTitle: charge, then the title, cut to its low 16 bits, or bad title, then start.
 
 abbrev pub jumpLed : List ℕ → ℕ → Session → ℕ → Lead → Seeded
-jumpLed p n s title L.Nothing = seeded (Stop (D.BadTitle title) s) p
+jumpLed p n s title L.Nothing = seeded (Stop s (D.BadTitle title)) p
 jumpLed p n s title (L.Object o) = entered p n s title o
 
 unfoldable pub jumped : List ℕ → List ℕ → ℕ → Session → ℕ → ℕ → Seeded
 jumped p x n s to left =
-    cond (eqb left 0) (seeded (Stop D.BudgetExhausted s) p) (jumpLed p n s (to % 65536) (resolveOf x (to % 65536)))
+    cond (eqb left 0) (seeded (Stop s D.BudgetExhausted) p) (jumpLed p n s (to % 65536) (resolveOf x (to % 65536)))
 
 -- CallTitle: charge, title, then room or title stack full, then push, then start.
 
@@ -118,14 +118,14 @@ abbrev pub deeper : Session → Session
 deeper s = session (s .entry) (s .object) (s .pc) (s .odepth) (s .tdepth + 1) (s .pending)
 
 abbrev pub callLed : List ℕ → List ℕ → ℕ → Session → ℕ → Lead → Titled
-callLed p t n s title L.Nothing = titled (Stop (D.BadTitle title) s) p t
+callLed p t n s title L.Nothing = titled (Stop s (D.BadTitle title)) p t
 callLed p t n s title (L.Object o) =
-    cond (leb (titleRoom t) (s .tdepth)) (titled (Stop D.TitleStackFull s) p t)
+    cond (leb (titleRoom t) (s .tdepth)) (titled (Stop s D.TitleStackFull) p t)
     (beside (pushedTitle t (s .tdepth) (frameOf s)) (entered p n (deeper s) title o))
 
 unfoldable pub called : List ℕ → List ℕ → List ℕ → ℕ → Session → ℕ → ℕ → Titled
 called p t x n s to left =
-    cond (eqb left 0) (titled (Stop D.BudgetExhausted s) p t) (callLed p t n s (to % 65536) (resolveOf x (to % 65536)))
+    cond (eqb left 0) (titled (Stop s D.BudgetExhausted) p t) (callLed p t n s (to % 65536) (resolveOf x (to % 65536)))
 
 -- When the object side finishes, a title frame is popped, charged, and gives back entry, register 4, object and pc;
 -- without one the drive finishes.
@@ -138,8 +138,8 @@ given s x = session (x .entry) (x .object) (x .pc) (s .odepth) (s .tdepth - 1) (
 
 unfoldable pub returned : List ℕ → List ℕ → Session → ℕ → Seeded
 returned p t s left =
-    cond (eqb (s .tdepth) 0) (seeded (Stop D.Finished s) p)
-    (cond (eqb left 0) (seeded (Stop D.BudgetExhausted (popped s)) p)
+    cond (eqb (s .tdepth) 0) (seeded (Stop s D.Finished) p)
+    (cond (eqb left 0) (seeded (Stop (popped s) D.BudgetExhausted) p)
     (seeded (Go (given s (titleFrame t (s .tdepth - 1)))) (set p 4 (titleValue (titleFrame t (s .tdepth - 1) .entry)))))
 
 abbrev pub waiting : Session → Session
@@ -149,8 +149,8 @@ abbrev pub acted : List ℕ → List ℕ → List ℕ → ℕ → Session → �
 acted p t x n s left Return = beside t (returned p t s left)
 acted p t x n s left (Jump to) = beside t (jumped p x n s to left)
 acted p t x n s left (Call to) = called p t x n s to left
-acted p t x n s left (Yield o) = titled (Stop o (waiting s)) p t
-acted p t x n s left (End o) = titled (Stop o s) p t
+acted p t x n s left (Yield o) = titled (Stop (waiting s) o) p t
+acted p t x n s left (End o) = titled (Stop s o) p t
 
 -- a value, and what the lent registers and both frame rooms hold
 pub record Rooms (A : Type 0) : Type 0 where
@@ -183,7 +183,7 @@ abbrev pub ended : DriveOutcome → Session → DriveEnd
 ended o s = record { outcome = o; session = s }
 
 abbrev pub continued : Turn → Rooms Turn → (Rooms Session → Rooms DriveEnd) → Rooms DriveEnd
-continued (Stop o s) t more = rooms (ended o s) (t .regs) (t .frames) (t .titles)
+continued (Stop s o) t more = rooms (ended o s) (t .regs) (t .frames) (t .titles)
 continued (Go s) t more = more (rooms s (t .regs) (t .frames) (t .titles))
 
 unfoldable pub titlesOf : List ℕ → List ℕ → Budgets → ℕ → Rooms Session → Rooms DriveEnd
@@ -251,14 +251,18 @@ answered (verdict.Refused r) d w = rooms (A.Refused r) (w .regs) (w .frames) (w 
 unfoldable pub answerOf : List ℕ → List ℕ → Budgets → Start → Rooms Session → Rooms DriveAnswer
 answerOf x file b start w = answered (verdictFor x file b start w) (begun x file b w start) w
 
--- What a drive rests on.
-pub record Able (classes file places frames titles : List ℕ) : Type 0 where
-  pub objects : Ready classes file places frames
+-- What a drive rests on: what its object side does, an index file that is read, and title frames that can be counted.
+pub record Able (classes x file places gpr psr frames titles : List ℕ) : Type 0 where
+  pub objects : Ready classes file places gpr psr frames
+  pub index : indexVerdict x ≡ verdict.Fine
   pub room : length titles ≤ 196610
 
 -- What the tests before a drive settle: the first refusal, and, where there is none, all that it rests on but the classes.
-pub record Settled (file places frames titles : List ℕ) (answer expected : Verdict) : Type 0 where
+pub record Settled (x file places gpr psr frames titles : List ℕ) (answer expected : Verdict) : Type 0 where
   pub judged : answer ≡ expected
+  pub index : answer ≡ verdict.Fine → indexVerdict x ≡ verdict.Fine
   pub fine : answer ≡ verdict.Fine → objectsVerdict file ≡ verdict.Fine
   pub placed : answer ≡ verdict.Fine → Placed file places
+  pub general : answer ≡ verdict.Fine → length gpr ≡ 4096
+  pub status : answer ≡ verdict.Fine → length psr ≡ 128
   pub room : answer ≡ verdict.Fine → (length frames ≤ 131073) × (length titles ≤ 196610)

@@ -2,6 +2,8 @@
 ghost use mathlib.Core.Path.{_≡_};
 ghost use Prim.Native.Nat.{_≤_};
 ghost use lib.ListN.{length};
+ghost use Rattle.error.specs.declared.Verdict.the-variants.{Fine};
+ghost use Rattle.index_bdmv.specs.Rules.{verdictOf as indexVerdict};
 ghost use Rattle.movie_object.specs.Rules.{countOf};
 ghost use Rattle.vm.specs.Rules.{banks};
 ghost use Rattle.nav_driver.specs.Rules.{Able, Settled, titleValue, playing, asked, follows, seeded, titled, entered, jumped, called, returned, acted, rooms, turnOf, titlesOf, badNumber, startOf, goOnOf, begun, startVerdict, verdictFor, answerOf};
@@ -48,10 +50,10 @@ pub enum Follow {
     End(DriveOutcome),
 }
 
-// How a title turn ends: with a session to go on from, or with an outcome.
+// How a title turn ends: with a session to go on from, or with an outcome. The session stands at the same place in both.
 pub enum Turn {
     Go(Session),
-    Stop(DriveOutcome, Session),
+    Stop(Session, DriveOutcome),
 }
 
 pub struct DriveEnd {
@@ -146,7 +148,7 @@ fn enter(psr: &mut [u32], count: u32, s: Session, entry: u32, object: u32) -> Tu
     let mut t = s;
     t.entry = entry;
     if count <= object {
-        return Turn::Stop(DriveOutcome::BadObject(object), t);
+        return Turn::Stop(t, DriveOutcome::BadObject(object));
     }
     t.object = object;
     t.pc = 0;
@@ -155,15 +157,16 @@ fn enter(psr: &mut [u32], count: u32, s: Session, entry: u32, object: u32) -> Tu
 }
 
 fn jump_title(psr: &mut [u32], index: &[u8], count: u32, s: Session, to: u32, left: u32) -> Turn
+    requires { ⌜ indexVerdict (now index) ≡ Fine ⌝ }
     ensures { λ r. ⌜ seeded r (now (psr .exit)) ≡ jumped (now (psr .entry)) (now (index .entry)) count s to left ⌝ }
 {
     if left == 0 {
-        return Turn::Stop(DriveOutcome::BudgetExhausted, s);
+        return Turn::Stop(s, DriveOutcome::BudgetExhausted);
     }
     let title = to % 65536;
     match index_bdmv::resolve(index, title) {
         Lead::Object(object) => enter(psr, count, s, title, object as u32),
-        Lead::Nothing => Turn::Stop(DriveOutcome::BadTitle(title), s),
+        Lead::Nothing => Turn::Stop(s, DriveOutcome::BadTitle(title)),
     }
 }
 
@@ -176,19 +179,19 @@ fn call_title(
     to: u32,
     left: u32,
 ) -> Turn
-    requires { ⌜ length (now titles) ≤ 196610 ⌝ }
+    requires { ⌜ (indexVerdict (now index) ≡ Fine) × (length (now titles) ≤ 196610) ⌝ }
     ensures { λ r. ⌜ titled r (now (psr .exit)) (now (titles .exit))
         ≡ called (now (psr .entry)) (now (titles .entry)) (now (index .entry)) count s to left ⌝ }
 {
     if left == 0 {
-        return Turn::Stop(DriveOutcome::BudgetExhausted, s);
+        return Turn::Stop(s, DriveOutcome::BudgetExhausted);
     }
     let title = to % 65536;
     match index_bdmv::resolve(index, title) {
         Lead::Object(object) => {
             let depth = s.tdepth;
             if titles.len() / 3 <= depth as usize {
-                return Turn::Stop(DriveOutcome::TitleStackFull, s);
+                return Turn::Stop(s, DriveOutcome::TitleStackFull);
             }
             let frame = TitleFrame {
                 entry: s.entry,
@@ -200,7 +203,7 @@ fn call_title(
             t.tdepth = depth + 1;
             enter(psr, count, t, title, object as u32)
         }
-        Lead::Nothing => Turn::Stop(DriveOutcome::BadTitle(title), s),
+        Lead::Nothing => Turn::Stop(s, DriveOutcome::BadTitle(title)),
     }
 }
 
@@ -210,12 +213,12 @@ fn leave_title(psr: &mut [u32], titles: &[u32], s: Session, left: u32) -> Turn
 {
     let depth = s.tdepth;
     if depth == 0 {
-        return Turn::Stop(DriveOutcome::Finished, s);
+        return Turn::Stop(s, DriveOutcome::Finished);
     }
     let mut t = s;
     t.tdepth = depth - 1;
     if left == 0 {
-        return Turn::Stop(DriveOutcome::BudgetExhausted, t);
+        return Turn::Stop(t, DriveOutcome::BudgetExhausted);
     }
     let frame = TitleFrame::read(titles, depth - 1);
     let value = title_value(frame.entry);
@@ -235,7 +238,7 @@ fn act(
     next: Follow,
     left: u32,
 ) -> Turn
-    requires { ⌜ length (now titles) ≤ 196610 ⌝ }
+    requires { ⌜ (indexVerdict (now index) ≡ Fine) × (length (now titles) ≤ 196610) ⌝ }
     ensures { λ r. ⌜ titled r (now (psr .exit)) (now (titles .exit))
         ≡ acted (now (psr .entry)) (now (titles .entry)) (now (index .entry)) count s left next ⌝ }
 {
@@ -245,8 +248,8 @@ fn act(
         Follow::Return => leave_title(psr, titles, s, left),
         Follow::Jump(to) => jump_title(psr, index, count, s, to, left),
         Follow::Call(to) => call_title(psr, titles, index, count, s, to, left),
-        Follow::Yield(outcome) => Turn::Stop(outcome, waits),
-        Follow::End(outcome) => Turn::Stop(outcome, s),
+        Follow::Yield(outcome) => Turn::Stop(waits, outcome),
+        Follow::End(outcome) => Turn::Stop(s, outcome),
     }
 }
 
@@ -264,7 +267,7 @@ fn one_turn(
     b: Budgets,
     left: u32,
 ) -> Turn
-    requires { ⌜ Able (now classes) (now file) (now places) (now frames) (now titles) ⌝ }
+    requires { ⌜ Able (now classes) (now index) (now file) (now places) (now gpr) (now psr) (now frames) (now titles) ⌝ }
     ensures { λ r. ⌜ rooms r (banks (now (gpr .exit)) (now (psr .exit))) (now (frames .exit)) (now (titles .exit))
         ≡ turnOf (now (index .entry)) (now (file .entry)) b left
         (rooms s (banks (now (gpr .entry)) (now (psr .entry))) (now (frames .entry)) (now (titles .entry))) ⌝ }
@@ -291,7 +294,7 @@ fn drive(
     s: Session,
     b: Budgets,
 ) -> DriveEnd
-    requires { ⌜ Able (now classes) (now file) (now places) (now frames) (now titles) ⌝ }
+    requires { ⌜ Able (now classes) (now index) (now file) (now places) (now gpr) (now psr) (now frames) (now titles) ⌝ }
     ensures { λ r. ⌜ rooms r (banks (now (gpr .exit)) (now (psr .exit))) (now (frames .exit)) (now (titles .exit))
         ≡ titlesOf (now (index .entry)) (now (file .entry)) b (b .titles)
         (rooms s (banks (now (gpr .entry)) (now (psr .entry))) (now (frames .entry)) (now (titles .entry))) ⌝ }
@@ -316,7 +319,7 @@ fn drive(
                 at = next;
                 left = left - 1;
             }
-            Turn::Stop(outcome, session) => {
+            Turn::Stop(session, outcome) => {
                 return DriveEnd { outcome, session };
             }
         }
@@ -346,7 +349,7 @@ fn start_entry(
     entry: u32,
     b: Budgets,
 ) -> DriveEnd
-    requires { ⌜ Able (now classes) (now file) (now places) (now frames) (now titles) ⌝ }
+    requires { ⌜ Able (now classes) (now index) (now file) (now places) (now gpr) (now psr) (now frames) (now titles) ⌝ }
     ensures { λ r. ⌜ rooms r (banks (now (gpr .exit)) (now (psr .exit))) (now (frames .exit)) (now (titles .exit))
         ≡ startOf (now (index .entry)) (now (file .entry)) b entry
         (rooms s (banks (now (gpr .entry)) (now (psr .entry))) (now (frames .entry)) (now (titles .entry))) ⌝ }
@@ -369,7 +372,7 @@ fn start_entry(
                 next,
                 b,
             ),
-            Turn::Stop(outcome, session) => DriveEnd { outcome, session },
+            Turn::Stop(session, outcome) => DriveEnd { outcome, session },
         },
         Lead::Nothing => {
             let title = bad_title(entry);
@@ -393,7 +396,7 @@ fn go_on(
     s: Session,
     b: Budgets,
 ) -> DriveEnd
-    requires { ⌜ Able (now classes) (now file) (now places) (now frames) (now titles) ⌝ }
+    requires { ⌜ Able (now classes) (now index) (now file) (now places) (now gpr) (now psr) (now frames) (now titles) ⌝ }
     ensures { λ r. ⌜ rooms r (banks (now (gpr .exit)) (now (psr .exit))) (now (frames .exit)) (now (titles .exit))
         ≡ goOnOf (now (index .entry)) (now (file .entry)) b
         (rooms s (banks (now (gpr .entry)) (now (psr .entry))) (now (frames .entry)) (now (titles .entry))) ⌝ }
@@ -423,7 +426,7 @@ fn begin(
     from: Start,
     b: Budgets,
 ) -> DriveEnd
-    requires { ⌜ Able (now classes) (now file) (now places) (now frames) (now titles) ⌝ }
+    requires { ⌜ Able (now classes) (now index) (now file) (now places) (now gpr) (now psr) (now frames) (now titles) ⌝ }
     ensures { λ r. ⌜ rooms r (banks (now (gpr .exit)) (now (psr .exit))) (now (frames .exit)) (now (titles .exit))
         ≡ begun (now (index .entry)) (now (file .entry)) b
         (rooms s (banks (now (gpr .entry)) (now (psr .entry))) (now (frames .entry)) (now (titles .entry))) from ⌝ }
@@ -471,7 +474,8 @@ fn verdict(
     b: Budgets,
 ) -> Verdict
     requires { ⌜ countOf (now file) ≤ length (now places) ⌝ }
-    ensures { λ r. ⌜ Settled (now (file .entry)) (now (places .exit)) (now (frames .entry)) (now (titles .entry)) r
+    ensures { λ r. ⌜ Settled (now (index .entry)) (now (file .entry)) (now (places .exit)) (now (gpr .entry)) (now (psr .entry))
+        (now (frames .entry)) (now (titles .entry)) r
         (verdictFor (now (index .entry)) (now (file .entry)) b from
         (rooms s (banks (now (gpr .entry)) (now (psr .entry))) (now (frames .entry)) (now (titles .entry)))) ⌝ }
 {

@@ -9,7 +9,16 @@ begin-requires c κs =
     let fine = c .before .before .before .before .before .before .before .enum-told .given .1 in
     let found = c .before .before .before .before .before .before .before .before .before .before .before .verdict .ensures in
     record {
-      objects = record { classed = c .before .before .before .before .before .before .classes .ensures; fine = found .fine fine; placed = found .placed fine; room = found .room fine .0 };
+      objects =
+          record {
+            classed = c .before .before .before .before .before .before .classes .ensures;
+            fine = found .fine fine;
+            placed = found .placed fine;
+            general = found .general fine;
+            status = found .status fine;
+            room = found .room fine .0;
+          };
+      index = found .index fine;
       room = found .room fine .1;
     }
 

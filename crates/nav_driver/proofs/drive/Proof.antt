@@ -19,11 +19,21 @@ abbrev μ-loop : tie.MeasureT-loop
 
 one-turn-requires : tie.Need-one-turn-requires Inv-loop μ-loop
 one-turn-requires c κs =
-    let p = c .before .before .before .before .before .before .before .before .before .before .before .before .before .pre .objects in
+    let able = c .before .before .before .before .before .before .before .before .before .before .before .before .before .pre in
+    let ready = able .objects in
     let inv = c .before .before .before .before .loop .inv in
     record {
-      objects = record { classed = p .classed; fine = p .fine; placed = p .placed; room = omega (arith, inv .2, p .room) };
-      room = omega (arith, inv .3, c .before .before .before .before .before .before .before .before .before .before .before .before .before .pre .room);
+      objects =
+          record {
+            classed = ready .classed;
+            fine = ready .fine;
+            placed = ready .placed;
+            general = inv .0 ∙ ready .general;
+            status = inv .1 ∙ ready .status;
+            room = omega (arith, inv .2, ready .room);
+          };
+      index = able .index;
+      room = omega (arith, inv .3, able .room);
     }
 
 sub-left : tie.Need-sub-left Inv-loop μ-loop
@@ -36,7 +46,7 @@ loop-again : tie.Need-loop-again Inv-loop μ-loop
 loop-again c = (search needs, search needs, search needs, search needs, titles-go _ _ _ _ _ _ _ _ _ (rw (c .before .next .given .1) at (c .before .before .before .before .before .before .before .before .before .before .before .one-turn .ensures)) ∙ c .before .before .before .before .before .before .before .before .before .before .before .before .before .before .before .before .loop .inv .4)
 
 returns : tie.Need-returns Inv-loop μ-loop
-returns c = titles-stop _ _ _ _ _ _ _ _ _ _ (rw (c .before .outcome .given .1) at (c .before .before .before .before .before .before .before .before .before .before .before .one-turn .ensures)) ∙ c .before .before .before .before .before .before .before .before .before .before .before .before .before .before .before .before .loop .inv .4
+returns c = titles-stop _ _ _ _ _ _ _ _ _ _ (rw (c .before .session .given .1) at (c .before .before .before .before .before .before .before .before .before .before .before .one-turn .ensures)) ∙ c .before .before .before .before .before .before .before .before .before .before .before .before .before .before .before .before .loop .inv .4
 
 pub drive-spec : {M : Type 1} → statement M
 drive-spec =

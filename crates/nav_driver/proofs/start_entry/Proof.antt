@@ -1,7 +1,26 @@
+use mathlib.Core.Path.{_∙_}
 use borrow.Author.Needs.{needs}
 use Rattle.nav_driver.specs.Rules.{startOf}
 use Rattle.nav_driver.proofs.start_entry.Statement.{statement}
 use Rattle.nav_driver.proofs.start_entry.Tie as tie
+
+drive-requires : tie.Need-drive-requires
+drive-requires c κs =
+    let able = c .before .before .before .before .before .before .before .before .before .before .before .before .before .before .before .before .before .before .before .before .before .before .before .before .pre in
+    let ready = able .objects in
+    record {
+      objects =
+          record {
+            classed = ready .classed;
+            fine = ready .fine;
+            placed = ready .placed;
+            general = ready .general;
+            status = c .before .before .before .before .before .before .before .before .before .enter .kept .0 ∙ ready .status;
+            room = ready .room;
+          };
+      index = able .index;
+      room = able .room;
+    }
 
 returns : tie.Need-returns
 unfolding startOf
@@ -9,7 +28,7 @@ returns c = rw (← c .before .before .before .before .before .before .before .b
 
 returns-2 : tie.Need-returns-2
 unfolding startOf
-returns-2 c = rw (← c .before .before .before .before .before .before .before .before .before .before .resolve .ensures, c .before .before .before .before .before .before .before .before .object .given .1, ← c .before .before .before .before .before .before .before .before .before .before .before .object-count .ensures, ← c .before .before .before .before .before .enter .ensures, c .before .outcome .given .1)
+returns-2 c = rw (← c .before .before .before .before .before .before .before .before .before .before .resolve .ensures, c .before .before .before .before .before .before .before .before .object .given .1, ← c .before .before .before .before .before .before .before .before .before .before .before .object-count .ensures, ← c .before .before .before .before .before .enter .ensures, c .before .session .given .1)
 
 returns-3 : tie.Need-returns-3
 unfolding startOf
@@ -25,7 +44,7 @@ start-entry-spec =
     (λ c. search needs)
     (λ c κs. search needs)
     (λ c. search needs)
-    (λ c κs. search needs)
+    drive-requires
     (λ c. search needs)
     (λ c. search needs)
     (λ c κs. search needs)

@@ -2,7 +2,7 @@ use mathlib.Core.Path.{_≡_, refl, sym, ap, _∙_}
 use borrow.Author.Needs.{needs}
 use Rattle.nav_driver.specs.Laws.{settled-refused}
 use Rattle.nav_driver.specs.Rules.{verdictFor}
-use Rattle.session.specs.Laws.{buffers-room}
+use Rattle.session.specs.Laws.{buffers-room, buffers-banks}
 use Rattle.nav_driver.proofs.verdict.Statement.{statement}
 use Rattle.nav_driver.proofs.verdict.Tie as tie
 
@@ -29,11 +29,19 @@ returns-5 c = settled-refused (c .enum-told10 .given .1) (rw (sym (c .before .be
 returns-6 : tie.Need-returns-6
 unfolding verdictFor
 returns-6 c =
+    let buffers = sym (c .before .before .before .before .before .before .before .before .before .before .before .before .before .before .before .before .before .before .before .buffers-verdict .ensures) ∙ c .before .before .before .before .before .before .before .before .before .before .before .before .before .before .before .before .before .enum-told .given .1 in
+    let entries = sym (c .before .before .before .before .before .before .before .before .before .before .verdict2 .ensures) ∙ c .before .before .before .before .before .before .before .before .enum-told7 .given .1 in
+    let objects = sym (c .before .before .before .before .before .before .walk-places .ensures .judged) ∙ c .before .before .enum-told9 .given .1 in
     record {
-      judged = c .session-verdict .ensures ∙ rw (sym (c .before .before .before .before .before .before .before .before .before .before .before .before .before .before .before .before .before .before .before .buffers-verdict .ensures) ∙ c .before .before .before .before .before .before .before .before .before .before .before .before .before .before .before .before .before .enum-told .given .1, sym (c .before .before .before .before .before .before .before .before .before .before .before .before .before .before .before .before .verdict .ensures) ∙ c .before .before .before .before .before .before .before .before .before .before .before .before .before .before .enum-told3 .given .1, sym (c .before .before .before .before .before .before .before .before .before .before .before .before .before .start-verdict .ensures) ∙ c .before .before .before .before .before .before .before .before .before .before .before .enum-told5 .given .1, sym (c .before .before .before .before .before .before .before .before .before .before .verdict2 .ensures) ∙ c .before .before .before .before .before .before .before .before .enum-told7 .given .1, sym (c .before .before .before .before .before .before .walk-places .ensures .judged) ∙ c .before .before .enum-told9 .given .1, c .before .object-count .ensures);
-      fine = λ h. sym (c .before .before .before .before .before .before .walk-places .ensures .judged) ∙ c .before .before .enum-told9 .given .1;
+      judged =
+          c .session-verdict .ensures
+          ∙ rw (buffers, sym (c .before .before .before .before .before .before .before .before .before .before .before .before .before .before .before .before .verdict .ensures) ∙ c .before .before .before .before .before .before .before .before .before .before .before .before .before .before .enum-told3 .given .1, sym (c .before .before .before .before .before .before .before .before .before .before .before .before .before .start-verdict .ensures) ∙ c .before .before .before .before .before .before .before .before .before .before .before .enum-told5 .given .1, entries, objects, c .before .object-count .ensures);
+      index = λ h. entries;
+      fine = λ h. objects;
       placed = λ h. c .before .before .before .before .before .before .walk-places .ensures .placed (c .before .before .enum-told9 .given .1) (rw (c .before .before .before .before .before .before .walk-places .kept .1 .0) (c .before .before .before .before .before .before .before .before .before .before .before .before .before .before .before .before .before .before .before .before .before .before .before .before .before .before .before .pre));
-      room = λ h. buffers-room _ _ _ _ (sym (c .before .before .before .before .before .before .before .before .before .before .before .before .before .before .before .before .before .before .before .buffers-verdict .ensures) ∙ c .before .before .before .before .before .before .before .before .before .before .before .before .before .before .before .before .before .enum-told .given .1);
+      general = λ h. buffers-banks _ _ _ _ buffers .0;
+      status = λ h. buffers-banks _ _ _ _ buffers .1;
+      room = λ h. buffers-room _ _ _ _ buffers;
     }
 
 pub verdict-spec : {M : Type 1} → statement M
