@@ -168,7 +168,7 @@ follows-fine x n (E.Branch q) h = asked-fine x n q (h q refl)
 
 abbrev SafeTurn : List ℕ → ℕ → List ℕ → Turn → List ℕ → Type 0
 SafeTurn x n t (T.Go s) f = Good n f t s
-SafeTurn x n t (T.Stop o s) f = OutFine x n o × Good n f t s
+SafeTurn x n t (T.Stop s o) f = OutFine x n o × Good n f t s
 
 module _ (x t : List ℕ) (n : ℕ) where
   return-safe : (f : List ℕ) (s : Session) (left : ℕ) → Good n f t s → SafeTurn x n t (returned f s left) f
@@ -255,7 +255,7 @@ module _ (x file t : List ℕ) (sound : Sound x file) (steps : ℕ) where
 
   continue-safe : (n : ℕ) (u : Turn) (v : World Turn) (more : World Session → World RunEnd) → SafeTurn x n t u (v .frames) → Sized 4096 128 (v .regs)
       → ((w : World Session) → Good n (w .frames) t (w .it) → Sized 4096 128 (w .regs) → SafeEnd x n t (more w)) → SafeEnd x n t (continued u v more)
-  continue-safe n (T.Stop o s) v more h sized k = (h .0, h .1, sized)
+  continue-safe n (T.Stop s o) v more h sized k = (h .0, h .1, sized)
   continue-safe n (T.Go s) v more h sized k = k (world s (v .regs) (v .frames)) h sized
 
   drive-safe : (left : ℕ) (w : World Session) → Good (countOf file) (w .frames) t (w .it) → Sized 4096 128 (w .regs)
@@ -274,7 +274,7 @@ module _ (x file t : List ℕ) (sound : Sound x file) (steps : ℕ) where
 
 abbrev SafeTitle : ℕ → List ℕ → TitleTurn → List ℕ → Type 0
 SafeTitle n f (M.Go s) t = Good n f t s
-SafeTitle n f (M.Stop o s) t = NotBad o × Good n f t s
+SafeTitle n f (M.Stop s o) t = NotBad o × Good n f t s
 
 led-somewhere : (x : List ℕ) (n e : ℕ) → leadsNowhere x n e ≡ false → ledNowhere n (resolveOf x e) ≡ false
 unfolding leadsNowhere
@@ -416,7 +416,7 @@ module _ (x file : List ℕ) (sound : Sound x file) (b : Budgets) where
   continue-title-safe : (n : ℕ) (u : TitleTurn) (v : Rooms TitleTurn) (more : Rooms Session → Rooms DriveEnd) → SafeTitle n (v .frames) u (v .titles)
       → Sized 4096 128 (v .regs) → ((w : Rooms Session) → Good n (w .frames) (w .titles) (w .it) → Sized 4096 128 (w .regs) → SafeDrive n (more w))
       → SafeDrive n (driver.continued u v more)
-  continue-title-safe n (M.Stop o s) v more h sized k = h
+  continue-title-safe n (M.Stop s o) v more h sized k = h
   continue-title-safe n (M.Go s) v more h sized k = k (rooms s (v .regs) (v .frames) (v .titles)) h sized
 
   titles-safe : (left : ℕ) (w : Rooms Session) → Good (countOf file) (w .frames) (w .titles) (w .it) → Sized 4096 128 (w .regs)

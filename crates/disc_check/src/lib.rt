@@ -3,7 +3,8 @@ ghost use mathlib.Core.Path.{_≡_};
 ghost use Prim.Native.Nat.{_+_, _*_, _/_, _≤_};
 ghost use lib.ListN.{length};
 ghost use Rattle.error.specs.declared.Verdict.the-variants.{Fine};
-ghost use Rattle.movie_object.specs.Rules.{countOf, verdictOf, Placed};
+ghost use Rattle.index_bdmv.specs.Rules.{verdictOf as indexVerdict};
+ghost use Rattle.movie_object.specs.Rules.{countOf, verdictOf as objectsVerdict, Placed};
 ghost use Rattle.vm.specs.Rules.{fetched};
 ghost use Rattle.disc_check.specs.Rules.{registerReach, reachOf, objectOffends, leadsNowhere, titleOffends, operationOffends, branchOffends, commandOffends, firstCommand, firstObject, checkOf};
 ghost use Rattle.disc_check.specs.Promise.{Exact, NeverBad};
@@ -71,6 +72,7 @@ fn object_offends(count: u32, r: Reach) -> bool
 
 // A title that leads to no object of the disc can be asked for; register contents can always name title 0.
 fn title_offends(index: &[u8], count: u32, r: Reach) -> bool
+    requires { ⌜ indexVerdict (now index) ≡ Fine ⌝ }
     ensures { λ b. ⌜ b ≡ titleOffends (now (index .entry)) count r ⌝ }
 {
     match r {
@@ -80,6 +82,7 @@ fn title_offends(index: &[u8], count: u32, r: Reach) -> bool
 }
 
 fn leads_nowhere(index: &[u8], count: u32, title: u32) -> bool
+    requires { ⌜ indexVerdict (now index) ≡ Fine ⌝ }
     ensures { λ b. ⌜ b ≡ leadsNowhere (now (index .entry)) count title ⌝ }
 {
     match index_bdmv::resolve(index, title) {
@@ -89,6 +92,7 @@ fn leads_nowhere(index: &[u8], count: u32, title: u32) -> bool
 }
 
 fn branch_offends(index: &[u8], count: u32, op: BranchOp, r: Reach) -> bool
+    requires { ⌜ indexVerdict (now index) ≡ Fine ⌝ }
     ensures { λ b. ⌜ b ≡ branchOffends (now (index .entry)) count op r ⌝ }
 {
     match op {
@@ -110,6 +114,7 @@ fn branch_offends(index: &[u8], count: u32, op: BranchOp, r: Reach) -> bool
 }
 
 fn operation_offends(index: &[u8], count: u32, operation: Operation, a: Operand) -> bool
+    requires { ⌜ indexVerdict (now index) ≡ Fine ⌝ }
     ensures { λ b. ⌜ b ≡ operationOffends (now (index .entry)) count operation a ⌝ }
 {
     match operation {
@@ -126,6 +131,7 @@ fn operation_offends(index: &[u8], count: u32, operation: Operation, a: Operand)
 
 // Whether a command can ask, with some register contents, for what the disc lacks.
 fn command_offends(index: &[u8], count: u32, command: DecodedCommand) -> bool
+    requires { ⌜ indexVerdict (now index) ≡ Fine ⌝ }
     ensures { λ b. ⌜ b ≡ commandOffends (now (index .entry)) count command ⌝ }
 {
     let group = command.group;
@@ -161,7 +167,7 @@ fn fetch(commands: &[u8], at: usize) -> [u8; 12]
 }
 
 fn first_command(index: &[u8], count: u32, commands: &[u8]) -> Found
-    requires { ⌜ length (now commands) ≤ 16777216 ⌝ }
+    requires { ⌜ (indexVerdict (now index) ≡ Fine) × (length (now commands) ≤ 16777216) ⌝ }
     ensures { λ r. ⌜ r ≡ firstCommand (now (index .entry)) count (now (commands .entry)) (length (now (commands .entry)) / 12) 0 ⌝ }
 {
     let number = commands.len() / 12;
@@ -177,7 +183,8 @@ fn first_command(index: &[u8], count: u32, commands: &[u8]) -> Found
 }
 
 fn first_object(index: &[u8], file: &[u8], places: &[u32], count: u32) -> DiscCheck
-    requires { ⌜ (count ≡ countOf (now file)) × (verdictOf (now file) ≡ Fine) × Placed (now file) (now places) ⌝ }
+    requires { ⌜ (count ≡ countOf (now file)) × (indexVerdict (now index) ≡ Fine) × (objectsVerdict (now file) ≡ Fine)
+        × Placed (now file) (now places) ⌝ }
     ensures { λ r. ⌜ r ≡ firstObject (now (index .entry)) (now (file .entry)) count 0 ⌝ }
 {
     let mut n: u32 = 0;

@@ -13,7 +13,7 @@ unfolding checkOf
 returns-2 c = rw (sym (c .before .before .before .before .before .before .before .before .before .verdict .ensures) ∙ c .before .before .before .before .before .before .before .enum-told .given .1, sym (c .before .before .before .before .before .walk-places .ensures .judged) ∙ c .before .objects .given .1)
 
 first-object-requires : tie.Need-first-object-requires
-first-object-requires c κs = (c .before .object-count .ensures, sym (c .before .before .before .before .before .before .walk-places .ensures .judged) ∙ c .before .before .enum-told2 .given .1, c .before .before .before .before .before .before .walk-places .ensures .placed (c .before .before .enum-told2 .given .1) (rw (c .before .before .before .before .before .before .walk-places .kept .1 .0) (c .before .before .before .before .before .before .before .before .before .before .before .before .before .before .pre)))
+first-object-requires c κs = (c .before .object-count .ensures, sym (c .before .before .before .before .before .before .before .before .before .before .verdict .ensures) ∙ c .before .before .before .before .before .before .before .before .enum-told .given .1, sym (c .before .before .before .before .before .before .walk-places .ensures .judged) ∙ c .before .before .enum-told2 .given .1, c .before .before .before .before .before .before .walk-places .ensures .placed (c .before .before .enum-told2 .given .1) (rw (c .before .before .before .before .before .before .walk-places .kept .1 .0) (c .before .before .before .before .before .before .before .before .before .before .before .before .before .before .pre)))
 
 returns-3 : tie.Need-returns-3
 unfolding checkOf

@@ -19,15 +19,15 @@ loop-holds : tie.Need-loop-holds Inv-loop μ-loop
 loop-holds c = (search needs, at-start (firstObject _ _) _)
 
 commands-at-requires : tie.Need-commands-at-requires Inv-loop μ-loop
-commands-at-requires c κs = (c .before .before .before .before .before .pre .1, c .before .before .before .before .before .pre .2)
+commands-at-requires c κs = (c .before .before .before .before .before .pre .2, c .before .before .before .before .before .pre .3)
 
 first-command-requires : tie.Need-first-command-requires Inv-loop μ-loop
 first-command-requires c κs =
-    let fine = c .before .before .before .before .before .before .pre .1 in
+    let fine = c .before .before .before .before .before .before .pre .2 in
     let few = commands-few (c .before .before .before .before .before .before .args .file .now) (c .before .before .loop .n) fine in
     let whole = commands-mod (c .before .before .before .before .before .before .args .file .now) (c .before .before .loop .n) fine in
     let here = ap length (c .commands-at .ensures) in
-    omega arith
+    (c .before .before .before .before .before .before .pre .1, omega arith)
 
 returns : tie.Need-returns Inv-loop μ-loop
 returns c = object-found _ _ _ _ (c .before .before .before .before .before .loop-test .taken) (c .before .before .before .before .before .before .before .before .before .before .pre .0) (c .before .before .before .before .commands-at .ensures) (c .before .before .before .first-command .ensures) _ (c .before .found .given .1) ∙ c .before .before .before .before .before .before .loop .inv .1
