@@ -156,19 +156,6 @@ pub fn half_at(s: &[u8], at: usize) -> u16
     0
 }
 
-// The same of four bytes, at a place that has 32 bits, so that the places after it can be named.
-pub fn word_at(s: &[u8], at: u32) -> u32
-    ensures { λ r. ⌜ r ≡ be4 (now (s .entry)) at ⌝ }
-{
-    let i = at as usize;
-    join32(
-        byte_at(s, i),
-        byte_at(s, i + 1),
-        byte_at(s, i + 2),
-        byte_at(s, i + 3),
-    )
-}
-
 // Whether a file is neither too long (1) nor without the header of its kind (2).
 pub fn header(file: &[u8], kind: u32) -> Verdict
     ensures { λ r. ⌜ r ≡ headerOf kind (now (file .entry)) ⌝ }
