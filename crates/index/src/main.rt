@@ -7,6 +7,9 @@ use index_bdmv::IndexEntry;
 use index_bdmv::IndexObjectType;
 use index_bdmv::Parsed;
 use libc::STDOUT_FILENO;
+ghost use mathlib.Core.Path.{_≡_};
+ghost use Rattle.error.specs.declared.Verdict.the-variants.{Fine};
+ghost use Rattle.index_bdmv.specs.Rules.{verdictOf};
 
 fn main() {
     if os::arg_count() != 2 {
@@ -55,7 +58,9 @@ fn print_app_info(found: AppInfoBdmv) {
     say(b"\n");
 }
 
-fn print_titles(index: &[u8], titles: u32) {
+fn print_titles(index: &[u8], titles: u32)
+    requires { ⌜ verdictOf (now index) ≡ Fine ⌝ }
+{
     let mut k = 0;
     while k < titles {
         k += 1;
@@ -66,15 +71,19 @@ fn print_titles(index: &[u8], titles: u32) {
     }
 }
 
-fn print_entry(index: &[u8], entry: u32) {
-    match IndexBdmv::entry(index, entry) {
+fn print_entry(index: &[u8], entry: u32)
+    requires { ⌜ verdictOf (now index) ≡ Fine ⌝ }
+{
+    match index_bdmv::entry_of(index, entry) {
         IndexEntry::Refused(why) => console::say_refused(why),
         IndexEntry::Nothing => say(b"nothing\n"),
         IndexEntry::Object(object) => print_object(index, entry, object),
     }
 }
 
-fn print_object(index: &[u8], entry: u32, object: IndexObjectType) {
+fn print_object(index: &[u8], entry: u32, object: IndexObjectType)
+    requires { ⌜ verdictOf (now index) ≡ Fine ⌝ }
+{
     match object {
         IndexObjectType::Hdmv {
             playback_type,
@@ -86,7 +95,7 @@ fn print_object(index: &[u8], entry: u32, object: IndexObjectType) {
         }
         IndexObjectType::BdJ { playback_type } => {
             say(b"BD-J ");
-            say(IndexBdmv::bdjo_file_name(index, entry));
+            say(index_bdmv::name_of(index, entry));
             print_playback(playback_type);
         }
     }
