@@ -1,9 +1,17 @@
 //! The table of rows: what is done, how long each side takes, and whether the target is met.
 use crate::measure::{Time, Work, interleaved};
 
+/// The work of one side of a row, to be done so many times and not measured: for who counts its instructions.
+pub struct Counted {
+    pub row: String,
+    pub ours: bool,
+    pub times: u32,
+}
+
 pub struct Table {
     rows: usize,
     short: usize,
+    counted: Option<Counted>,
 }
 
 fn nanoseconds(time: f64) -> String {
@@ -19,10 +27,15 @@ fn shown(time: Time) -> String {
 }
 
 impl Table {
+    /// A table that prints nothing and does the works of one row.
+    pub fn counting(counted: Counted) -> Self {
+        Table { rows: 0, short: 0, counted: Some(counted) }
+    }
+
     pub fn new() -> Self {
         println!("| work | the Rust: smallest (median) | Mescjadro: smallest (median) | Rust / Mescjadro | target | |");
         println!("|---|---|---|---|---|---|");
-        Table { rows: 0, short: 0 }
+        Table { rows: 0, short: 0, counted: None }
     }
 
     /// A row with times that were taken already; a target is how many times as fast as the Rust the library is to be.
@@ -37,13 +50,31 @@ impl Table {
     }
 
     /// A row of two works, each of which does something `count` times.
-    pub fn both(&mut self, what: &str, count: usize, target: Option<f64>, theirs: Work, ours: Work) {
+    pub fn both<'a>(
+        &mut self,
+        what: &str,
+        count: usize,
+        target: Option<f64>,
+        mut theirs: Work<'a>,
+        mut ours: Work<'a>,
+    ) {
+        if let Some(counted) = &self.counted {
+            if what.starts_with(&counted.row) {
+                let work = if counted.ours { &mut ours } else { &mut theirs };
+                (0..counted.times).for_each(|_| work());
+                println!("{count}");
+            }
+            return;
+        }
         let times = interleaved(&mut [theirs, ours]);
         self.row(what, times[0].each(count as f64), times[1].each(count as f64), target);
     }
 
     /// A row of what only the library has.
     pub fn ours(&mut self, what: &str, count: usize, ours: Work) {
+        if self.counted.is_some() {
+            return;
+        }
         let time = interleaved(&mut [ours])[0].each(count as f64);
         self.rows += 1;
         println!("| {what} | | {} | | stated | |", shown(time));
