@@ -246,7 +246,7 @@ made {z} {m} {t} {l} {r} h w e =
       ap (take r) (f .1 ∙ over-zero z (lineBy l)) ∙ take-at (lineBy l) (drop (length (lineBy l)) z) r (omega arith) ∙ sym same,
     )
 
--- the ends of `list`
+-- the ends of `list_line`
 
 pub no-room : (l t : List ℕ) (at : ℕ) → length l < at + length t → listing (Refused NoRoom) l ≡ listOf l at t
 unfolding listOf

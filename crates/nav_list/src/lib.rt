@@ -352,20 +352,36 @@ fn line_at(file: &[u8], from: usize) -> Line
     }
 }
 
-// A command's line from a place on, and the place after it.
-pub fn list(command: DecodedCommand, out: &mut [u8], at: usize) -> Listed
-    ensures { λ r. ⌜ listing r (now (out .exit)) ≡ listOf (now (out .entry)) at (lineOf command) ⌝ }
+// A line from a place on, where it fits.
+fn list_line(line: Line, out: &mut [u8], at: usize) -> Listed
+    requires { ⌜ Lines (lineBy line) line ⌝ }
+    ensures { λ r. ⌜ listing r (now (out .exit)) ≡ listOf (now (out .entry)) at (lineBy line) ⌝ }
 {
     let classes = register_model::classes();
-    let mut line = [0u8; 112];
-    let count = put_line(&classes, &mut line, 0, line_of(command));
+    let mut made = [0u8; 112];
+    let count = put_line(&classes, &mut made, 0, line);
     if out.len() < at {
         return Listed::Refused(Refusal::NoRoom);
     }
     if out.len() - at < count {
         return Listed::Refused(Refusal::NoRoom);
     }
-    Listed::At(text::put(out, at, &line[..count]))
+    Listed::At(text::put(out, at, &made[..count]))
+}
+
+// A command's line from a place on, and the place after it.
+pub fn list(command: DecodedCommand, out: &mut [u8], at: usize) -> Listed
+    ensures { λ r. ⌜ listing r (now (out .exit)) ≡ listOf (now (out .entry)) at (lineOf command) ⌝ }
+{
+    list_line(line_of(command), out, at)
+}
+
+// The same of the twelve bytes at a place of a file.
+pub fn list_at(file: &[u8], from: usize, out: &mut [u8], at: usize) -> Listed
+    requires { ⌜ from + 12 ≤ length (now file) ⌝ }
+    ensures { λ r. ⌜ listing r (now (out .exit)) ≡ listOf (now (out .entry)) at (lineAt (now (file .entry)) from) ⌝ }
+{
+    list_line(line_at(file, from), out, at)
 }
 
 // The line of the twelve bytes at a place of a file, for the listing of whole objects, which lends the class table.

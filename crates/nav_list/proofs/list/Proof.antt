@@ -1,41 +1,9 @@
--- `list` writes the line where it fits and else alters nothing: it stands whole in the local array, which no line outgrows. Assumes nothing.
-use mathlib.Core.Path.{refl, sym, ap}
-use native.Mathlib.Omega.{arith}
-use lib.Seq.{length-take-le}
 use borrow.Author.Needs.{needs}
-use Rattle.nav_list.proofs.Lengths.{made, line-short, no-room, room}
 use Rattle.nav_list.proofs.list.Statement.{statement}
 use Rattle.nav_list.proofs.list.Tie as tie
 
 returns : tie.Need-returns
-returns c = no-room _ _ (c .before .before .before .before .before .before .before .before .args .at) (omega arith)
-
-returns-2 : tie.Need-returns-2
-returns-2 c = no-room _ _ (c .before .before .before .before .before .before .before .before .before .args .at) (omega (arith, made (c .before .before .before .before .line-of .ensures) (c .before .before .before .put-line .ensures) refl .0))
-
-array-share-prefix-line : tie.Need-array-share-prefix-line
-array-share-prefix-line c = omega (arith, made (c .before .before .before .before .before .line-of .ensures) (c .before .before .before .before .put-line .ensures) refl .0, line-short (c .before .before .before .before .before .line-of .ensures), c .before .before .before .before .put-line .kept .1 .0)
-
-slice-aggregate-put : tie.Need-slice-aggregate-put
-slice-aggregate-put c = sym (length-take-le (c .before .before .before .before .before .put-line .result) (c .before .before .before .before .before .put-line .last .1 .0) (omega (arith, made (c .before .before .before .before .before .before .line-of .ensures) (c .before .before .before .before .before .put-line .ensures) refl .0, line-short (c .before .before .before .before .before .before .line-of .ensures), c .before .before .before .before .before .put-line .kept .1 .0)))
-
-returns-3 : tie.Need-returns-3
-returns-3 c = room _ _ _ (c .before .before .before .before .before .before .before .before .before .before .before .before .before .before .args .at) _ (omega (arith, made (c .before .before .before .before .before .before .before .before .before .line-of .ensures) (c .before .before .before .before .before .before .before .before .put-line .ensures) refl .0)) (rw (made (c .before .before .before .before .before .before .before .before .before .line-of .ensures) (c .before .before .before .before .before .before .before .before .put-line .ensures) refl .1) at (c .before .before .put .ensures))
+returns c = rw (c .before .before .before .before .line-of .ensures .text) (c .before .before .list-line .ensures)
 
 pub list-spec : {M : Type 1} → statement M
-list-spec =
-    tie.close
-    (tie.spec
-    (λ c κs. search needs)
-    (λ c. search needs)
-    (λ c. search needs)
-    (λ c κs. search needs)
-    (λ c κs. search needs)
-    returns
-    (λ c. search needs)
-    returns-2
-    array-share-prefix-line
-    slice-aggregate-put
-    (λ c κs. search needs)
-    (λ c. search needs)
-    returns-3)
+list-spec = tie.close (tie.spec (λ c κs. search needs) (λ c κs. search needs) (λ c. search needs) returns)
