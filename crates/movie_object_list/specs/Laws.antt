@@ -1,28 +1,26 @@
--- Laws of the listing: how long its pieces are, and that a text which fits lies over the room. Assumes nothing.
+-- Laws of the listing: how long its pieces are, and what is written one after the other. Assumes nothing.
 use mathlib.Core.Path.{_≡_, refl, sym, ap, _∙_, subst}
-use mathlib.Core.Bool.{true, false, cond}
-use mathlib.Core.List.{List, _∷_, _++_}
+use mathlib.Core.Bool.{cond}
+use mathlib.Core.List.{List, [], _∷_, _++_}
 use Prim.Native.Nat.{ℕ, zero, suc, _+_, _*_, _-_, _≤_, _<_}
 use native.Mathlib.Nat.{zero-add}
 use native.Mathlib.Omega.{arith}
 use lib.Dec.{eqb, leb}
 use lib.ListN.{length, getD, take, drop, length-append, length-drop}
-use lib.Seq.{length-sets, length-take-le, take-at}
+use lib.Seq.{length-sets, length-take-le}
 use borrow.Author.Tests.{le-leb, lt-leb, leb-true, leb-false}
 use Rattle.laws.specs.Cases.{either-way, by-test}
-use Rattle.laws.specs.Firsts.{blocks, blocks-suc, blocks-around, after}
-use Rattle.laws.specs.Over.{over-zero}
+use Rattle.laws.specs.Firsts.{blocks, blocks-suc}
 use Rattle.common.specs.Rules.{be2}
 use Rattle.common.specs.Laws.{be2-below}
 use Rattle.text.specs.Rules.{bytes, numeral, blanks, rightIn, Wrote}
 use Rattle.text.specs.Laws.{few-digits, fitted, then}
-use Rattle.error.specs.declared.Refusal.the-variants.{NoRoom}
 use Rattle.movie_object.specs.declared.MovieObject.{MovieObject}
-use Rattle.movie_object.specs.Rules.{place, countOf, commandsOf, headAt, headOf}
-use Rattle.movie_object.specs.Laws.{commands-from}
-use Rattle.nav_list.specs.declared.Listed.the-variants.{At, Refused}
-use Rattle.nav_list.specs.Rules.{lineAt, listing, listOf}
-use Rattle.movie_object_list.specs.Rules.{countText, headingText, prefixText, lineText, objectText}
+use Rattle.error.specs.declared.Verdict.the-variants.{Fine}
+use Rattle.movie_object.specs.Rules.{place, countOf, verdictOf, commandsOf, headAt, headOf}
+use Rattle.movie_object.specs.Laws.{object-in, commands-from}
+use Rattle.nav_list.specs.Rules.{lineAt}
+use Rattle.movie_object_list.specs.Rules.{countText, headingText, prefixText, lineText, objectText, textAt, blockText}
 
 -- ---- lengths
 
@@ -39,7 +37,7 @@ count-short n h =
       either-way (λ (t : List ℕ). length t ≤ 6) (eqb n 1) {x = bytes " cmd)"} {y = bytes " cmds)"} (omega arith) (omega arith),
     )
 
-heading-short : (n : ℕ) (o : MovieObject) → n < 65536 → o .«resume_intention_flag» < 65536 → o .«menu_call_mask» < 65536 → o .«title_search_mask» < 65536 → o .commands < 65536
+pub heading-short : (n : ℕ) (o : MovieObject) → n < 65536 → o .«resume_intention_flag» < 65536 → o .«menu_call_mask» < 65536 → o .«title_search_mask» < 65536 → o .commands < 65536
     → length (headingText n o) ≤ 96
 unfolding headingText
 heading-short n o hn hr hm ht hc =
@@ -94,85 +92,67 @@ prefix-short i h =
       length-blanks (3 - length t),
     )
 
--- ---- what fits
-
--- one line more
-pub lines-more : (commands : List ℕ) (i : ℕ) → length (blocks (lineText commands) (i + 1)) ≡ length (blocks (lineText commands) i) + length (lineText commands i)
-lines-more commands i = ap length (blocks-suc (lineText commands) i) ∙ length-append (blocks (lineText commands) i) (lineText commands i)
-
--- no line is longer than all of them
-pub lines-past : (commands : List ℕ) (i n : ℕ) → i < n → length (blocks (lineText commands) i) + length (lineText commands i) ≤ length (blocks (lineText commands) n)
-lines-past commands i n h =
-    let f = lineText commands in
-    let r = after f (i + 1) (n - (i + 1)) in
-    omega (arith, ap length (blocks-around f i n h), length-append (blocks f i) (f i ++ r), length-append (f i) r)
+-- one block more
+pub blocks-more : (f : ℕ → List ℕ) (i : ℕ) → length (blocks f (i + 1)) ≡ length (blocks f i) + length (f i)
+blocks-more f i = ap length (blocks-suc f i) ∙ length-append (blocks f i) (f i)
 
 pub line-length : (commands : List ℕ) (i : ℕ) → length (lineText commands i) ≡ length (prefixText i) + length (lineAt commands (12 * i))
 line-length commands i = length-append (prefixText i) (lineAt commands (12 * i))
+
+pub text-length : (n : ℕ) (o : MovieObject) (commands : List ℕ) → length (objectText n o commands) ≡ length (headingText n o) + length (blocks (lineText commands) (o .commands))
+unfolding objectText
+text-length n o commands = length-append (headingText n o) (blocks (lineText commands) (o .commands))
 
 -- ---- texts in a room
 
 pub wrote-length : {l t l′ : List ℕ} {at r : ℕ} → Wrote l at t l′ r → length l′ ≡ length l
 wrote-length {l} {t} {l′} {at} {r} w = ap length (w .held) ∙ length-sets l at t
 
--- one line more
-pub lines-step : {l m l′ : List ℕ} (commands : List ℕ) (i : ℕ) {at p r : ℕ} → Wrote l at (blocks (lineText commands) i) m p → Wrote m p (lineText commands i) l′ r
-    → Wrote l at (blocks (lineText commands) (i + 1)) l′ r
-lines-step {l} {m} {l′} commands i {at} {p} {r} a b = subst (λ (t : List ℕ). Wrote l at t l′ r) (sym (blocks-suc (lineText commands) i)) (then a b)
+-- one block more
+pub blocks-step : {l m l′ : List ℕ} (f : ℕ → List ℕ) (i : ℕ) {at p r : ℕ} → Wrote l at (blocks f i) m p → Wrote m p (f i) l′ r → Wrote l at (blocks f (i + 1)) l′ r
+blocks-step {l} {m} {l′} f i {at} {p} {r} a b = subst (λ (t : List ℕ). Wrote l at t l′ r) (sym (blocks-suc f i)) (then a b)
 
--- a text that was written whole into a room of its own is there to be copied
+-- a text that was written whole into a room of its own
 pub wrote-end : {l t l′ : List ℕ} {r : ℕ} → Wrote l 0 t l′ r → length t ≤ length l → r ≡ length t
 wrote-end {l} {t} {l′} {r} w h = fitted w h′ .0 ∙ zero-add (length t)
   where
     h′ : 0 + length t ≤ length l
     h′ = omega arith
 
-pub wrote-part : {l t l′ : List ℕ} {r : ℕ} → Wrote l 0 t l′ r → length t ≤ length l → take r l′ ≡ t
-wrote-part {l} {t} {l′} {r} w h =
-    ap (λ (x : List ℕ). take r x) (fitted w h′ .1 ∙ over-zero l t) ∙ take-at t (drop (length t) l) r (sym (wrote-end w h))
-  where
-    h′ : 0 + length t ≤ length l
-    h′ = omega arith
-
-pub wrote-same : {l t u l′ : List ℕ} {at r : ℕ} → t ≡ u → Wrote l at t l′ r → Wrote l at u l′ r
-wrote-same {l} {t} {u} {l′} {at} {r} e w = subst (λ (x : List ℕ). Wrote l at x l′ r) e w
-
--- ---- the answer
-
--- a heading and lines that fit, written one after the other
-pub list-done : (l m l′ h b : List ℕ) (at p r count : ℕ) → count ≡ length h → leb (at + (count + length b)) (length l) ≡ true
-    → Wrote l at h m p → Wrote m p b l′ r → listing (At r) l′ ≡ listOf l at (h ++ b)
-unfolding listOf
-list-done l m l′ h b at p r count e t x y =
-    let n = length-append h b in
-    let k = leb-true (at + (count + length b)) (length l) t in
-    let fit : at + length (h ++ b) ≤ length l = omega (arith, k) in
-    let f = fitted (then x y) fit in
-    rw (le-leb (at + length (h ++ b)) (length l) fit) (same (f .0) (f .1))
-  where
-    same : {a b : ℕ} {x y : List ℕ} → a ≡ b → x ≡ y → listing (At a) x ≡ listing (At b) y
-    same e f = cc
-
-pub list-refused : (l h b : List ℕ) (at count : ℕ) → count ≡ length h → leb (at + (count + length b)) (length l) ≡ false
-    → listing (Refused NoRoom) l ≡ listOf l at (h ++ b)
-unfolding listOf
-list-refused l h b at count e t =
-    let n = length-append h b in
-    let k = leb-false (at + (count + length b)) (length l) t in
-    rw (lt-leb (at + length (h ++ b)) (length l) (omega (arith, k)))
-
--- two tests that agree
-pub same-test : (x y u v : ℕ) → (x ≤ y → u ≤ v) → (y < x → v < u) → leb x y ≡ leb u v
-same-test x y u v f g =
-    by-test (leb x y)
-    (λ e. e ∙ sym (le-leb u v (f (leb-true x y e))))
-    (λ e. e ∙ sym (lt-leb u v (g (leb-false x y e))))
+-- the same test, on what the room has left
+pub left-test : (at t room : ℕ) → at ≤ room → leb t (room - at) ≡ leb (at + t) room
+left-test at t room h =
+    by-test (leb t (room - at))
+    (λ e. e ∙ sym (le-leb (at + t) room (omega (arith, leb-true t (room - at) e))))
+    (λ e. e ∙ sym (lt-leb (at + t) room (omega (arith, leb-false t (room - at) e))))
 
 -- ---- the object of a file
 
 pub part-length : (s : List ℕ) (head : ℕ) → head + 4 + 12 * be2 s (head + 2) ≤ length s → length (take (12 * be2 s (head + 2)) (drop (head + 4) s)) ≡ 12 * be2 s (head + 2)
 part-length s head h = length-take-le (12 * be2 s (head + 2)) (drop (head + 4) s) (omega (arith, length-drop (head + 4) s))
 
-pub text-of : (s : List ℕ) (n p : ℕ) → n < countOf s → p ≡ place s n
-    → objectText n (headAt s p) (take (12 * be2 s (p + 2)) (drop (p + 4) s)) ≡ objectText n (headOf s n) (commandsOf s n)
+-- the commands that a head counts are there
+pub lines-there : (s : List ℕ) (head : ℕ) {part : List ℕ} {o : MovieObject} → o ≡ headAt s head → part ≡ take (12 * be2 s (head + 2)) (drop (head + 4) s) → head + 4 + 12 * be2 s (head + 2) ≤ length s
+    → 12 * o .commands ≤ length part
+unfolding headAt
+lines-there s head {part} {o} x y h = omega (arith, ap (λ (m : MovieObject). m .commands) x, ap length y, part-length s head h)
+
+pub text-of : (s : List ℕ) (n p : ℕ) → n < countOf s → p ≡ place s n → textAt s p n ≡ objectText n (headOf s n) (commandsOf s n)
 text-of s n p h e = ap (λ (c : List ℕ). objectText n (headAt s p) c) (sym (commands-from s n p h e)) ∙ ap (λ (x : ℕ). objectText n (headAt s x) (commandsOf s n)) e
+
+-- ---- the objects of a file, one after the other, from a place that is known by an equation
+
+module _ (s : List ℕ) (n p : ℕ) (there : n < countOf s) (here : p ≡ place s n) where
+  pub object-here : verdictOf s ≡ Fine → p + 4 + 12 * be2 s (p + 2) ≤ length s
+  object-here v = rw here (object-in s n v there)
+
+  -- one object and a line end more
+  pub objects-step : {l m m′ l′ : List ℕ} {at a b r : ℕ} → Wrote l at (blocks (blockText s) n) m a → Wrote m a (textAt s p n) m′ b → Wrote m′ b (10 ∷ []) l′ r
+      → Wrote l at (blocks (blockText s) (n + 1)) l′ r
+  objects-step {l} {m} {m′} {l′} {at} {a} {b} {r} x y z =
+      blocks-step (blockText s) n x (then (subst (λ (t : List ℕ). Wrote m a t m′ b) (text-of s n p there here) y) z)
+
+  pub objects-more : length (blocks (blockText s) (n + 1)) ≡ length (blocks (blockText s) n) + length (textAt s p n) + 1
+  objects-more =
+      let t : List ℕ = objectText n (headOf s n) (commandsOf s n) in
+      omega (arith, blocks-more (blockText s) n, length-append t (10 ∷ []), ap length (text-of s n p there here))

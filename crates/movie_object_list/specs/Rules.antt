@@ -1,15 +1,17 @@
--- An object as text (document 01, "Marked and run examples"; the Rust's `MovieObject::disassemble`). Assumes nothing.
+-- An object, and all objects of a file, as text (document 01, "Marked and run examples"; the Rust's `MovieObject::disassemble`). Assumes nothing.
 use mathlib.Core.Bool.{cond}
-use mathlib.Core.List.{List, _∷_, _++_}
-use Prim.Native.Nat.{ℕ, _*_}
+use mathlib.Core.List.{List, [], _∷_, _++_}
+use Prim.Native.Nat.{ℕ, _+_, _*_}
 use lib.Dec.{eqb}
+use lib.ListN.{take, drop}
 use Rattle.laws.specs.Firsts.{blocks}
+use Rattle.common.specs.Rules.{be2}
 use Rattle.text.specs.Rules.{bytes, numeral, rightIn}
 use Rattle.error.specs.Rules.{firstOf}
 use Rattle.error.specs.declared.Verdict.{Verdict}
 use Rattle.error.specs.declared.Verdict.the-variants as verdict
 use Rattle.movie_object.specs.declared.MovieObject.{MovieObject}
-use Rattle.movie_object.specs.Rules.{verdictOf, headOf, commandsOf, onDisc}
+use Rattle.movie_object.specs.Rules.{verdictOf, countOf, headAt, headOf, commandsOf, onDisc}
 use Rattle.nav_list.specs.declared.Listed.the-variants.{Refused}
 use Rattle.nav_list.specs.Rules.{lineAt, Listing, listing, listOf}
 
@@ -41,6 +43,17 @@ lineText commands i = prefixText i ++ lineAt commands (12 * i)
 unfoldable pub objectText : ℕ → MovieObject → List ℕ → List ℕ
 objectText n o commands = headingText n o ++ blocks (lineText commands) (o .commands)
 
+-- The text of the object whose head stands at a place.
+abbrev pub textAt : List ℕ → ℕ → ℕ → List ℕ
+textAt s head n = objectText n (headAt s head) (take (12 * be2 s (head + 2)) (drop (head + 4) s))
+
+-- The whole file: the text of each object, and a line end.
+abbrev pub blockText : List ℕ → ℕ → List ℕ
+blockText s n = objectText n (headOf s n) (commandsOf s n) ++ (10 ∷ [])
+
+unfoldable pub fileText : List ℕ → List ℕ
+fileText s = blocks (blockText s) (countOf s)
+
 -- A refused file, or an object that isn't on the disc, alters nothing; and so does a text that is longer than the room.
 abbrev pub listedAs : Verdict → List ℕ → List ℕ → ℕ → Listing
 listedAs verdict.Fine text out at = listOf out at text
@@ -48,3 +61,6 @@ listedAs (verdict.Refused r) text out at = listing (Refused r) out
 
 unfoldable pub listObject : List ℕ → ℕ → List ℕ → ℕ → Listing
 listObject s n out at = listedAs (firstOf (verdictOf s) (onDisc s n)) (objectText n (headOf s n) (commandsOf s n)) out at
+
+unfoldable pub listFile : List ℕ → List ℕ → ℕ → Listing
+listFile s out at = listedAs (verdictOf s) (fileText s) out at

@@ -1,11 +1,11 @@
--- The invariant: i lines are written. A turn is `lines-step`. Assumes nothing.
+-- The invariant: i lines are written. A turn is `blocks-step`. Assumes nothing.
 use mathlib.Core.Path.{_≡_, refl, _∙_, subst}
 use Prim.Native.Nat.{ℕ, _-_, _≤_}
 use native.Mathlib.Omega.{arith}
 use lib.ListN.{length}
 use borrow.Author.Needs.{needs}
 use Rattle.laws.specs.Firsts.{blocks}
-use Rattle.movie_object_list.specs.Laws.{lines-step, wrote-length}
+use Rattle.movie_object_list.specs.Laws.{blocks-step, wrote-length}
 use Rattle.movie_object_list.specs.Rules.{lineText}
 use Rattle.text.specs.Laws.{nothing, then}
 use Rattle.text.specs.Rules.{Wrote}
@@ -33,7 +33,7 @@ loop-less : tie.Need-loop-less Inv-loop μ-loop
 loop-less c = omega (arith, c .before .before .before .before .before .before .before .before .loop-test .taken)
 
 loop-again : tie.Need-loop-again Inv-loop μ-loop
-loop-again c = let l = c .before .before .before .before .before .before .before .before .before .loop in (omega (arith, c .before .before .before .before .before .before .before .before .loop-test .taken), wrote-length (c .before .before .put-command .ensures) ∙ wrote-length (c .before .before .before .before .before .before .put-prefix .ensures) ∙ l .inv .1, lines-step (now (c .before .before .before .before .before .before .before .before .before .before .before .before .before .args .commands)) (l .i) (l .inv .2) (then (c .before .before .before .before .before .before .put-prefix .ensures) (c .before .before .put-command .ensures)))
+loop-again c = let l = c .before .before .before .before .before .before .before .before .before .loop in (omega (arith, c .before .before .before .before .before .before .before .before .loop-test .taken), wrote-length (c .before .before .put-command .ensures) ∙ wrote-length (c .before .before .before .before .before .before .put-prefix .ensures) ∙ l .inv .1, blocks-step (lineText (now (c .before .before .before .before .before .before .before .before .before .before .before .before .before .args .commands))) (l .i) (l .inv .2) (then (c .before .before .before .before .before .before .put-prefix .ensures) (c .before .before .put-command .ensures)))
 
 same-length : tie.Need-same-length Inv-loop μ-loop
 same-length c = c .before .loop .inv .1
