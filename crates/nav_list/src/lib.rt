@@ -14,6 +14,9 @@ use nav_command::Operand;
 use nav_command::Operation;
 use nav_command::RegisterBank;
 
+// No line is longer, also of a command whose sub-group has three digits.
+const LONGEST: usize = 104;
+
 // The place after the text.
 pub enum Listed {
     At(usize),
@@ -357,12 +360,15 @@ fn list_line(line: Line, out: &mut [u8], at: usize) -> Listed
     requires { ⌜ Lines (lineBy line) line ⌝ }
     ensures { λ r. ⌜ listing r (now (out .exit)) ≡ listOf (now (out .entry)) at (lineBy line) ⌝ }
 {
-    let classes = register_model::classes();
-    let mut made = [0u8; 112];
-    let count = put_line(&classes, &mut made, 0, line);
     if out.len() < at {
         return Listed::Refused(Refusal::NoRoom);
     }
+    let classes = register_model::classes();
+    if LONGEST <= out.len() - at {
+        return Listed::At(put_line(&classes, out, at, line));
+    }
+    let mut made = [0u8; 112];
+    let count = put_line(&classes, &mut made, 0, line);
     if out.len() - at < count {
         return Listed::Refused(Refusal::NoRoom);
     }

@@ -64,10 +64,10 @@ fn list_row(table: &mut Table, what: &str, commands: &Commands) {
         }
     };
     let ours = || {
-        let mut out = [0; 102];
+        let mut out = [0; 128];
         for command in commands {
             let mut length = 0;
-            unsafe { raw::mescjadro_list_command(black_box(command).as_ptr(), 12, out.as_mut_ptr(), 102, &mut length) };
+            unsafe { raw::mescjadro_list_command(black_box(command).as_ptr(), 12, out.as_mut_ptr(), 128, &mut length) };
             black_box((&out, length));
         }
     };
