@@ -26,7 +26,7 @@ pub enum DiscCheck {
 }
 
 // The values that an operand can have, whatever the registers hold.
-pub enum Reach {
+enum Reach {
     Always(u32),
     Anything,
 }

@@ -20,7 +20,7 @@ use nav_command::SetOp;
 use nav_command::SystemOp;
 
 // A value of an enum as numbers, to compare it by.
-pub struct Key {
+struct Key {
     pub kind: u8,
     pub value: u32,
     pub more: u8,

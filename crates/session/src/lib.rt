@@ -94,7 +94,7 @@ pub struct ObjectFrame {
 }
 
 impl ObjectFrame {
-    pub const SIZE: usize = 2;
+    const SIZE: usize = 2;
 
     // The frame at a depth.
     pub fn read(frames: &[u32], depth: u32) -> Self
@@ -123,7 +123,7 @@ pub struct TitleFrame {
 }
 
 impl TitleFrame {
-    pub const SIZE: usize = 3;
+    const SIZE: usize = 3;
 
     // The frame at a depth.
     pub fn read(titles: &[u32], depth: u32) -> Self

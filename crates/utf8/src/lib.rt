@@ -5,7 +5,7 @@ ghost use lib.ListN.{length, take, drop};
 ghost use Rattle.utf8.specs.Rules.{between, leadOf, lead3, lead4, stepOf, isWhole, allAscii, isUtf8};
 
 // What must follow: so many bytes more of a character, the next of them from low to high.
-pub enum Scan {
+enum Scan {
     Want { more: u8, low: u8, high: u8 },
     Bad,
 }
