@@ -81,6 +81,10 @@ uint32_t mescjadro_object(const uint8_t *file, size_t file_len, uint32_t object,
 uint32_t mescjadro_list_object(const uint8_t *file, size_t file_len, uint32_t object, uint8_t *out, size_t out_len,
                                size_t *length);
 
+/* Writes the listing of every object in turn at the start of out, each with a line end, and the length of all into *length;
+ * the rest of out stays. Refusals: 1, 2, 3, 5. */
+uint32_t mescjadro_list(const uint8_t *file, size_t file_len, uint8_t *out, size_t out_len, size_t *length);
+
 /* Writes a file at the start of out and its length into *length; the rest of out stays. For each object there are three
  * flags, 0 or 1, and a number of commands; all commands follow one another, twelve bytes each. Refusals: 6, 9, 5. */
 uint32_t mescjadro_write_objects(uint32_t version, const uint8_t *flags, size_t flags_len, const uint32_t *counts,

@@ -20,7 +20,7 @@ use Rattle.movie_object.specs.Laws.{good, object-in}
 use Rattle.nav_command.specs.declared.DecodedCommand.{DecodedCommand}
 use Rattle.nav_command.specs.Rules.{commandOf}
 use Rattle.nav_list.specs.declared.Listed.{Listed}
-use Rattle.nav_list.specs.Rules.{lineOf, listing, listOf}
+use Rattle.nav_list.specs.Rules.{lineOf, lineAt, listing, listOf}
 use Rattle.session.specs.declared.Session.{Session}
 use Rattle.session.specs.declared.Budgets.{Budgets}
 use Rattle.vm.specs.Rules.{Banks, banks, fetched}
@@ -59,11 +59,16 @@ module _ (command bytes : List ℕ) (d : DecodedCommand) (long : length command 
   decoded l found l′ room numbers put =
       rw (eq-eqb (length l) 13 room, eq-eqb (length command) 12 long) (ap (handed 0) (put ∙ numbers ∙ ap commandNumbers whole))
 
-  pub listed : (out out′ : List ℕ) (k k′ r : ℕ) (g : Listed) → listing g out′ ≡ listOf out 0 (lineOf d) → size r k′ ≡ textBy g k → measured out′ (size r k′) ≡ listCommandCall command out k
-  unfolding listCommandCall
-  listed out out′ k k′ r g list hand =
-      rw (eq-eqb (length command) 12 long)
-      (ap (measured out′) hand ∙ ap (λ x. text x k) list ∙ ap (λ (c : DecodedCommand). text (listOf out 0 (lineOf c)) k) whole)
+-- the line at the start of twelve bytes is theirs
+line-whole : (command : List ℕ) → length command ≡ 12 → lineAt command 0 ≡ lineOf (commandOf command)
+unfolding lineAt
+line-whole command long = ap (λ (b : List ℕ). lineOf (commandOf b)) (take-all 12 command (omega arith))
+
+pub listed : (command out out′ : List ℕ) (k k′ r : ℕ) (g : Listed) → length command ≡ 12 → listing g out′ ≡ listOf out 0 (lineAt command 0) → size r k′ ≡ textBy g k → measured out′ (size r k′) ≡ listCommandCall command out k
+unfolding listCommandCall
+listed command out out′ k k′ r g long list hand =
+    rw (eq-eqb (length command) 12 long)
+    (ap (measured out′) hand ∙ ap (λ x. text x k) list ∙ ap (λ (t : List ℕ). text (listOf out 0 t) k) (line-whole command long))
 
 -- ---- objects
 

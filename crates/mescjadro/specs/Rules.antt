@@ -20,7 +20,7 @@ use Rattle.movie_object.specs.declared.Parsed.the-variants as objects
 use Rattle.movie_object.specs.declared.MovieObject.{MovieObject}
 use Rattle.movie_object.specs.declared.Object.{Object}
 use Rattle.movie_object.specs.declared.Object.the-variants as object
-use Rattle.movie_object_list.specs.Rules.{listObject}
+use Rattle.movie_object_list.specs.Rules.{listObject, listFile}
 use Rattle.movie_object_write.specs.Rules.{Left as ObjectsLeft, writeOf as writeObjects}
 use Rattle.movie_object_write.specs.declared.Written.{Written as ObjectsWritten}
 use Rattle.movie_object_write.specs.declared.Written.the-variants as objectsWritten
@@ -135,6 +135,9 @@ objectCall file n l = into 5 l (objectBy (objectOf file n) (place file n) l)
 
 unfoldable pub listObjectCall : List ℕ → ℕ → List ℕ → ℕ → Measured
 listObjectCall file n out k = text (listObject file n out 0) k
+
+unfoldable pub listCall : List ℕ → List ℕ → ℕ → Measured
+listCall file out k = text (listFile file out 0) k
 
 abbrev pub objectsFileBy : ObjectsWritten → ℕ → Length
 objectsFileBy (objectsWritten.Bytes n) k = size 0 n

@@ -1,9 +1,32 @@
 // One command: decoded, encoded, listed.
 use super::hand;
 use error::Refusal;
-use nav_command::DecodedCommand;
 ghost use mathlib.Core.Path.{_≡_};
+ghost use Prim.Native.Nat.{_≤_};
+ghost use lib.ListN.{length};
+ghost use Rattle.vm.specs.Rules.{fetched};
 ghost use Rattle.mescjadro.specs.Rules.{handed, size, measured, decodeCall, encodeCall, listCommandCall};
+
+// The first twelve bytes.
+fn twelve(bytes: &[u8]) -> [u8; 12]
+    requires { ⌜ 12 ≤ length (now bytes) ⌝ }
+    ensures { λ r. ⌜ r ≡ fetched (now (bytes .entry)) 0 ⌝ }
+{
+    [
+        bytes[0],
+        bytes[1],
+        bytes[2],
+        bytes[3],
+        bytes[4],
+        bytes[5],
+        bytes[6],
+        bytes[7],
+        bytes[8],
+        bytes[9],
+        bytes[10],
+        bytes[11],
+    ]
+}
 
 // The thirteen numbers of twelve bytes.
 #[no_mangle]
@@ -16,7 +39,7 @@ pub extern "C" fn mescjadro_decode(command: &[u8], result: &mut [u32]) -> u32
     if command.len() != 12 {
         return lent::refused(Refusal::BadBuffer);
     }
-    let bytes = hand::twelve(command);
+    let bytes = twelve(command);
     let found = numbers::numbers_of(&bytes);
     lent::put(result, &found);
     0
@@ -46,7 +69,6 @@ pub extern "C" fn mescjadro_list_command(command: &[u8], out: &mut [u8], count: 
     if command.len() != 12 {
         return lent::refused(Refusal::BadBuffer);
     }
-    let bytes = hand::twelve(command);
-    let listed = nav_list::list(DecodedCommand::decode(&bytes), out, 0);
+    let listed = nav_list::list_at(command, 0, out, 0);
     hand::hand_text(listed, count)
 }

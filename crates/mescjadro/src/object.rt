@@ -9,7 +9,7 @@ use movie_object_write::Written;
 ghost use mathlib.Core.Path.{_≡_};
 ghost use Prim.Native.Nat.{_≤_};
 ghost use lib.ListN.{length};
-ghost use Rattle.mescjadro.specs.Rules.{handed, size, measured, objectsCall, objectNumbers, objectCall, listObjectCall, objectsFileBy, writeObjectsCall};
+ghost use Rattle.mescjadro.specs.Rules.{handed, size, measured, objectsCall, objectNumbers, objectCall, listObjectCall, listCall, objectsFileBy, writeObjectsCall};
 
 // What a file holds.
 #[no_mangle]
@@ -75,6 +75,16 @@ pub extern "C" fn mescjadro_list_object(
         ≡ listObjectCall (now (file .entry)) object (now (out .entry)) (now (count .entry)) ⌝ }
 {
     let listed = movie_object_list::list(file, object, out, 0);
+    hand::hand_text(listed, count)
+}
+
+// The text of the whole file.
+#[no_mangle]
+pub extern "C" fn mescjadro_list(file: &[u8], out: &mut [u8], count: &mut usize) -> u32
+    ensures { λ r. ⌜ measured (now (out .exit)) (size r (now (count .exit)))
+        ≡ listCall (now (file .entry)) (now (out .entry)) (now (count .entry)) ⌝ }
+{
+    let listed = movie_object_list::list_all(file, out, 0);
     hand::hand_text(listed, count)
 }
 

@@ -11,7 +11,7 @@ unfolding listCommandCall
 returns c = rw (ne-eqb _ _ (c .before .if1 .taken), c .refused .ensures)
 
 returns-2 : tie.Need-returns-2
-returns-2 c = listed _ _ _ (c .before .before .before .before .before .before .before .before .before .if1 .left) (c .before .before .before .before .before .before .before .before .twelve .ensures) (c .before .before .before .before .before .before .decode .ensures) _ _ _ _ _ _ (c .before .before .before .before .list .ensures) (c .hand-text .ensures)
+returns-2 c = listed _ _ _ _ _ _ _ (c .before .before .before .before .before .before .if1 .left) (c .before .before .before .before .list-at .ensures) (c .hand-text .ensures)
 
 pub mescjadro-list-command-spec : {M : Type 1} → statement M
 mescjadro-list-command-spec =
@@ -19,8 +19,6 @@ mescjadro-list-command-spec =
     (tie.spec
     (λ c κs. search needs)
     returns
-    (λ c κs. search needs)
-    (λ c κs. search needs)
     (λ c κs. search needs)
     (λ c κs. search needs)
     (λ c. search needs)

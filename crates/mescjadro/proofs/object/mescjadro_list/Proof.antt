@@ -1,0 +1,14 @@
+-- The listing, and its length. Assumes nothing.
+use mathlib.Core.Path.{ap}
+use borrow.Author.Needs.{needs}
+use Rattle.mescjadro.specs.Rules.{measured, listCall}
+use Rattle.mescjadro.proofs.object.mescjadro_list.Statement.{statement}
+use Rattle.mescjadro.proofs.object.mescjadro_list.Tie as tie
+
+returns : tie.Need-returns
+unfolding listCall
+returns c = rw (← c .before .before .before .before .list-all .ensures) (ap (measured _) (c .hand-text .ensures))
+
+pub mescjadro-list-spec : {M : Type 1} → statement M
+mescjadro-list-spec =
+    tie.close (tie.spec (λ c κs. tt) (λ c κs. tt) (λ c. search needs) returns)
