@@ -81,8 +81,8 @@ uint32_t mescjadro_object(const uint8_t *file, size_t file_len, uint32_t object,
 uint32_t mescjadro_list_object(const uint8_t *file, size_t file_len, uint32_t object, uint8_t *out, size_t out_len,
                                size_t *length);
 
-/* Writes the listing of every object in turn at the start of out, each with a line end, and the length of all into *length;
- * the rest of out stays. Refusals: 1, 2, 3, 5. */
+/* Writes the listings of all objects at the start of out, each with a line end, and their length into *length; the rest of
+ * out stays. They have at most 57 bytes for each object and 10 for each byte of the file. Refusals: 1, 2, 3, 5. */
 uint32_t mescjadro_list(const uint8_t *file, size_t file_len, uint8_t *out, size_t out_len, size_t *length);
 
 /* Writes a file at the start of out and its length into *length; the rest of out stays. For each object there are three

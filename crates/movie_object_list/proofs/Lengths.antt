@@ -20,6 +20,7 @@ use Rattle.nav_list.proofs.Lengths.{longest}
 use Rattle.nav_list.specs.Rules.{lineAt}
 use Rattle.movie_object_list.specs.Laws.{heading-fits, prefix-short, blocks-more, line-length, text-length, part-length, objects-more}
 use Rattle.movie_object_list.specs.Rules.{lineText, textAt, blockText, fileText}
+use Rattle.movie_object_list.specs.Theorems.{LongestListing}
 
 abbrev Bytes : List ℕ → Type 0
 Bytes s = (i : ℕ) → getD s i 0 < 256
@@ -85,6 +86,6 @@ objects-short s (suc n) b v h =
       objects-short s n b v (omega arith),
     ))
 
-pub file-short : (s : List ℕ) → Bytes s → verdictOf s ≡ Fine → length (fileText s) ≤ 57 * countOf s + 10 * length s
+pub file-short : LongestListing
 unfolding fileText
 file-short s b v = omega (arith, objects-short s (countOf s) b v (omega arith), good s v .last)

@@ -16,6 +16,7 @@ ghost use Rattle.register_model.specs.Rules.{classTable};
 ghost use Rattle.movie_object.specs.Rules.{next, verdictOf, headOf, commandsOf, onDisc};
 ghost use Rattle.nav_list.specs.Rules.{listing, listOf};
 ghost use Rattle.movie_object_list.specs.Rules.{countText, headingText, prefixText, lineText, objectText, textAt, fileText, listedAs, listObject, listFile};
+ghost use Rattle.movie_object_list.specs.Theorems.{LongestListing};
 
 // No heading is longer.
 const HEADING: usize = 96;
@@ -182,7 +183,7 @@ fn object_fits(classes: &[u8], file: &[u8], head: usize, n: u16, room: usize, at
     object_length(classes, file, head, n) <= left
 }
 
-// The same of the whole file, whose text has at most 57 bytes for each object and 10 for each byte of the file.
+// The same of the whole file, by the bound of `longest_listing`.
 fn file_fits(classes: &[u8], file: &[u8], room: usize, at: usize) -> bool
     requires { ⌜ (now classes ≡ classTable) × (verdictOf (now file) ≡ Fine) ⌝ }
     ensures { λ r. ⌜ r ≡ leb (at + length (fileText (now (file .entry)))) room ⌝ }
@@ -251,3 +252,8 @@ fn prefix_length(i: u16) -> usize
     let mut prefix = [0u8; 16];
     put_prefix(&mut prefix, 0, i)
 }
+
+// The text of a file has at most 57 bytes for each object and 10 for each byte of the file.
+pub fn longest_listing()
+    ensures { λ _. ⌜ LongestListing ⌝ }
+{}
