@@ -75,6 +75,12 @@ pub fn list_object(file: &[u8], object: u32, room: usize) -> Answer<Vec<u8>> {
     })
 }
 
+pub fn list(file: &[u8], room: usize) -> Answer<Vec<u8>> {
+    bytes(room, |out, length| unsafe {
+        raw::mescjadro_list(place(file), file.len(), out.as_mut_ptr(), out.len(), length)
+    })
+}
+
 /// What the writer of object files is handed.
 #[derive(Clone, Debug)]
 pub struct Objects {

@@ -19,6 +19,7 @@ unsafe extern "C" {
         out_len: usize,
         length: *mut usize,
     ) -> u32;
+    pub fn mescjadro_list(file: *const u8, file_len: usize, out: *mut u8, out_len: usize, length: *mut usize) -> u32;
     pub fn mescjadro_write_objects(
         version: u32,
         flags: *const u8,

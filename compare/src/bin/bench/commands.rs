@@ -74,24 +74,27 @@ fn list_row(table: &mut Table, what: &str, commands: &Commands) {
     table.both(what, COMMANDS, Some(3.5), Box::new(theirs), Box::new(ours));
 }
 
-fn list_objects_row(table: &mut Table, what: &str, file: &[u8], numbers: std::ops::Range<u32>) {
-    let lists = numbers.clone();
-    let theirs = move || {
+/// The first objects of a file, listed from it by one call.
+fn listing_row(table: &mut Table, what: &str, file: &[u8], objects: usize, list: fn(&[u8], &mut [u8]) -> u32) {
+    let theirs = || {
         let read = MovieObjects::parse(black_box(file)).unwrap();
-        for n in lists.clone() {
-            black_box(read.movie_objects[n as usize].disassemble(n as usize));
+        for (n, object) in read.movie_objects[..objects].iter().enumerate() {
+            black_box(object.disassemble(n));
         }
     };
-    let mut out = vec![0; 1 << 16];
-    let ours = move || {
-        for n in numbers.clone() {
-            let mut length = 0;
-            let (o, ol) = (out.as_mut_ptr(), out.len());
-            let refusal = unsafe { raw::mescjadro_list_object(file.as_ptr(), file.len(), n, o, ol, &mut length) };
-            assert_eq!(black_box(refusal), 0);
-        }
-    };
+    let mut out = vec![0; 16 * MIB];
+    let ours = || assert_eq!(list(black_box(file), &mut out), 0);
     table.both(what, 1, Some(3.5), Box::new(theirs), Box::new(ours));
+}
+
+fn list_first(file: &[u8], out: &mut [u8]) -> u32 {
+    let mut length = 0;
+    unsafe { raw::mescjadro_list_object(file.as_ptr(), file.len(), 0, out.as_mut_ptr(), out.len(), &mut length) }
+}
+
+fn list_all(file: &[u8], out: &mut [u8]) -> u32 {
+    let mut length = 0;
+    unsafe { raw::mescjadro_list(file.as_ptr(), file.len(), out.as_mut_ptr(), out.len(), &mut length) }
 }
 
 pub fn rows(table: &mut Table) {
@@ -102,13 +105,9 @@ pub fn rows(table: &mut Table) {
     encode_row(table, "encode a random command", &random);
     list_row(table, "list a known command", &known);
     list_row(table, "list a random command", &random);
+    let one = disc_of_length(1400, 100).object_file();
+    listing_row(table, "list one object of 100 commands, from its file", &one, 1, list_first);
     let disc = disc_of_length(MIB, 100);
-    let (file, count) = (disc.object_file(), disc.objects.len() as u32);
-    list_objects_row(
-        table,
-        "list one object of 100 commands, from its file",
-        &disc_of_length(1400, 100).object_file(),
-        0..1,
-    );
-    list_objects_row(table, "list all objects of 1 MiB, 100 commands an object, from the file", &file, 0..count);
+    let (file, count) = (disc.object_file(), disc.objects.len());
+    listing_row(table, "the whole listing of 1 MiB, 100 commands an object, from the file", &file, count, list_all);
 }

@@ -62,18 +62,19 @@ fn registers_and_machine() {
 fn files(what: &str, disc: &Disc) {
     let (index, file) = (disc.index_file(), disc.object_file());
     let (i, il, m, ml) = (index.as_ptr(), index.len(), file.as_ptr(), file.len());
-    let (mut numbers, mut out, mut length) = ([0; 8], vec![0; 4096], 0);
-    let (n, o) = (numbers.as_mut_ptr(), out.as_mut_ptr());
+    let (mut numbers, mut out, mut length) = ([0; 8], vec![0; 8 << 20], 0);
+    let (n, o, ol) = (numbers.as_mut_ptr(), out.as_mut_ptr(), out.len());
     print(&format!("objects, {what}"), || unsafe { mescjadro_objects(m, ml, n, 2) });
     print(&format!("object, {what}"), || unsafe { mescjadro_object(m, ml, 99, n, 5) });
-    print(&format!("list_object, {what}"), || unsafe { mescjadro_list_object(m, ml, 99, o, 4096, &mut length) });
+    print(&format!("list_object, {what}"), || unsafe { mescjadro_list_object(m, ml, 99, o, ol, &mut length) });
+    print(&format!("list, {what}"), || unsafe { mescjadro_list(m, ml, o, ol, &mut length) });
     print(&format!("index, {what}"), || unsafe { mescjadro_index(i, il, n, 6) });
     print(&format!("entry, {what}"), || unsafe { mescjadro_entry(i, il, 9, n, 8) });
     print(&format!("resolve, {what}"), || unsafe { mescjadro_resolve(i, il, 9, n, 2) });
     print(&format!("disc_check, {what}"), || unsafe { mescjadro_disc_check(i, il, m, ml, n, 3) });
-    let (mut long, records) = (vec![0; 1 << 20], (Objects::of(disc), Index::of(disc)));
-    print(&format!("write_objects, {what}"), || records.0.write(&mut long, &mut length));
-    print(&format!("write_index, {what}"), || records.1.write(&mut long, &mut length));
+    let records = (Objects::of(disc), Index::of(disc));
+    print(&format!("write_objects, {what}"), || records.0.write(&mut out, &mut length));
+    print(&format!("write_index, {what}"), || records.1.write(&mut out, &mut length));
     let mut player = Player::new();
     print(&format!("runner_run, {what}"), || player.run_object(&file, [100, 20, 20]));
     print(&format!("driver_run, {what}"), || player.drive(true, &index, &file, [100, 20, 20]));

@@ -24,7 +24,8 @@ impl ObjectFile {
         }
         answers += same("objects", library::objects(&self.0, 2), Err(refusal))?;
         answers += same("object", library::object(&self.0, 0, 5), Err(refusal))?;
-        Ok(answers + same("list", library::list_object(&self.0, 0, 0), Err(refusal))?)
+        answers += same("list", library::list_object(&self.0, 0, 0), Err(refusal))?;
+        Ok(answers + same("whole listing", library::list(&self.0, 0), Err(refusal))?)
     }
 
     /// Object `n`, whose head stands at `head`.
@@ -45,6 +46,21 @@ impl ObjectFile {
         Ok(answers + same("listing one byte short", short, Err(NO_ROOM))?)
     }
 
+    /// The text of each object and a line end, into room of its length and into as much as the header says.
+    fn listing(&self, objects: &[MovieObject]) -> Compared {
+        let listing: String = objects.iter().enumerate().map(|(n, object)| object.disassemble(n) + "\n").collect();
+        let mut answers = 0;
+        for room in [listing.len(), 57 * objects.len() + 10 * self.0.len()] {
+            let listed = library::list(&self.0, room).map(|bytes| text(&bytes));
+            answers += same("whole listing", listed, Ok(listing.clone()))?;
+        }
+        if !listing.is_empty() {
+            let short = library::list(&self.0, listing.len() - 1);
+            answers += same("whole listing one byte short", short, Err(NO_ROOM))?;
+        }
+        Ok(answers)
+    }
+
     fn accepted(&self) -> Compared {
         let Ok(read) = MovieObjects::parse(&self.0) else { return same("read by the Rust", true, false) };
         let count = read.movie_objects.len();
@@ -57,6 +73,7 @@ impl ObjectFile {
         for n in looked_at(count) {
             answers += self.object(n, heads[n], &read.movie_objects[n])?;
         }
+        answers += self.listing(&read.movie_objects)?;
         for off in [count as u32, u32::MAX] {
             answers += same("object off the disc", library::object(&self.0, off, 5), Err(NOT_AN_ENTRY))?;
             answers += same("list off the disc", library::list_object(&self.0, off, 0), Err(NOT_AN_ENTRY))?;
