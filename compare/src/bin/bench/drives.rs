@@ -54,13 +54,19 @@ impl Player {
 }
 
 impl Player {
-    /// The runner starts object 0.
-    pub fn run_object(&mut self, file: &[u8], budgets: [u32; 3]) -> u32 {
+    /// The runner starts object 0, or goes on.
+    pub fn drive_objects(&mut self, start: bool, file: &[u8], budgets: [u32; 3]) -> u32 {
         let Player { gpr, psr, frames, titles, session, outcome } = self;
         let (g, p, f, t) = (gpr.as_mut_ptr(), psr.as_mut_ptr(), frames.as_mut_ptr(), titles.as_ptr());
         let (fl, tl, m, ml, b) = (frames.len(), titles.len(), file.as_ptr(), file.len(), budgets.as_ptr());
         let (s, o) = (session.as_mut_ptr(), outcome.as_mut_ptr());
-        unsafe { raw::mescjadro_runner_run(g, 4096, p, 128, f, fl, t, tl, m, ml, 0, b, 3, s, 6, o, 6) }
+        unsafe {
+            if start {
+                raw::mescjadro_runner_run(g, 4096, p, 128, f, fl, t, tl, m, ml, 0, b, 3, s, 6, o, 6)
+            } else {
+                raw::mescjadro_runner_resume(g, 4096, p, 128, f, fl, t, tl, m, ml, b, 3, s, 6, o, 6)
+            }
+        }
     }
 }
 

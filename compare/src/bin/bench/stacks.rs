@@ -76,7 +76,8 @@ fn files(what: &str, disc: &Disc) {
     print(&format!("write_objects, {what}"), || records.0.write(&mut out, &mut length));
     print(&format!("write_index, {what}"), || records.1.write(&mut out, &mut length));
     let mut player = Player::new();
-    print(&format!("runner_run, {what}"), || player.run_object(&file, [100, 20, 20]));
+    print(&format!("runner_run, {what}"), || player.drive_objects(true, &file, [100, 20, 20]));
+    print(&format!("runner_resume, {what}"), || player.drive_objects(false, &file, [100, 20, 20]));
     print(&format!("driver_run, {what}"), || player.drive(true, &index, &file, [100, 20, 20]));
     print(&format!("driver_resume, {what}"), || player.drive(false, &index, &file, [100, 20, 20]));
 }
