@@ -1,10 +1,11 @@
 // The numbers of answers, of sessions and of decoded commands, as the C interface hands them out; the Rust has its enums alone.
 ghost use mathlib.Core.Path.{_≡_};
-ghost use Prim.Native.Nat.{_+_, _%_, _≤_};
+ghost use mathlib.Core.Bool.{cond};
+ghost use Prim.Native.Nat.{_+_, _/_, _%_, _≤_};
 ghost use Rattle.error.specs.Rules.{numberOf as refusalNumber};
 ghost use Rattle.laws.specs.Firsts.{all};
-ghost use Rattle.nav_command.specs.Rules.{numberOf, branchOf, setOf, operationOf, groupOf, operandOf, commandOf};
-ghost use Rattle.numbers.specs.Rules.{verdictNumber, flagNumber, pair, unknownOf, request, requestOf, stepNumbers, bare, bad, requesting, optionOf, playing, driveNumbers, runNumbers, checkNumbers, sessionNumbers, sessionOf, budgetNumbers, budgetsOf, groupPair, place, placeOf, rowPlace, codePlace, bankKind, operandPair, commandNumbers, groupNamed, operandNamed, sheetNamed, operationNamed, commandNamed, sameAt, isCommand};
+ghost use Rattle.nav_command.specs.Rules.{numberOf, operationOf, groupOf, operandOf, commandOf};
+ghost use Rattle.numbers.specs.Rules.{verdictNumber, flagNumber, pair, unknownOf, request, requestOf, stepNumbers, bare, bad, requesting, optionOf, playing, driveNumbers, runNumbers, checkNumbers, sessionNumbers, sessionOf, budgetNumbers, budgetsOf, groupPair, placeOf, rowOf, rowIn, Numbered, rowPlace, bankKind, operandPair, commandNumbers, groupNamed, operandNamed, sheetNamed, operationNamed, commandNamed, sameAt, isCommand};
 ghost use Rattle.numbers.specs.Apart.{ToldApart};
 ghost use Rattle.numbers.specs.Theorems.{NumbersNameCommands};
 use disc_check::DiscCheck;
@@ -40,6 +41,12 @@ pub struct Place {
     pub number: u32,
     pub sub: u32,
     pub code: u32,
+}
+
+// A row of the sheet: how many operations, and the number of the first.
+pub struct Row {
+    pub count: u32,
+    pub first: u32,
 }
 
 // A request: its operation's place on the sheet, two operands, and the code of an unknown system request.
@@ -347,118 +354,135 @@ pub fn command_numbers(command: DecodedCommand) -> [u32; 13]
     ]
 }
 
-// Commands as they stand on a disc: the same numbers without the decoded record.
+// Commands as they stand on a disc: the same numbers without the decoded record, and without a branch, since those of
+// random commands can't be predicted.
 
-fn place_of(number: u32) -> Place
-    ensures { λ r. ⌜ r ≡ place number 0 0 ⌝ }
+// One of two numbers that are both at hand.
+fn either(test: bool, yes: u32, no: u32) -> u32
+    ensures { λ r. ⌜ r ≡ cond test yes no ⌝ }
 {
-    Place {
-        number,
-        sub: 0,
-        code: 0,
-    }
-}
-
-fn no_place(sub: u8, code: u8) -> Place
-    ensures { λ r. ⌜ r ≡ place 0 sub code ⌝ }
-{
-    Place {
-        number: 0,
-        sub: sub as u32,
-        code: code as u32,
-    }
-}
-
-// A row of `count` options from 0 on, whose first has the number `first`.
-fn from_zero(sub: u8, option: u8, count: u8, first: u8) -> Place
-    requires { ⌜ first + count ≤ 48 ⌝ }
-    ensures { λ r. ⌜ r ≡ rowPlace option count first sub option ⌝ }
-{
-    if option < count {
-        return place_of((first + option) as u32);
-    }
-    no_place(sub, option)
-}
-
-// A row of codes from 1 on.
-fn from_one(sub: u8, code: u8, count: u8, first: u8) -> Place
-    requires { ⌜ first + count ≤ 48 ⌝ }
-    ensures { λ r. ⌜ r ≡ codePlace code count first sub ⌝ }
-{
-    if code == 0 {
-        return no_place(sub, code);
-    }
-    if code - 1 < count {
-        return place_of((first + (code - 1)) as u32);
-    }
-    no_place(sub, code)
-}
-
-fn branch_at(sub: u8, option: u8) -> Place
-    ensures { λ r. ⌜ r ≡ placeOf (branchOf sub option) ⌝ }
-{
-    match sub {
-        0 => from_zero(0, option, 3, 1),
-        1 => from_zero(1, option, 5, 4),
-        2 => from_zero(2, option, 6, 9),
-        _ => no_place(sub, option),
-    }
-}
-
-fn set_at(sub: u8, code: u8) -> Place
-    ensures { λ r. ⌜ r ≡ placeOf (setOf sub code) ⌝ }
-{
-    match sub {
-        0 => from_one(0, code, 15, 22),
-        1 => from_one(1, code, 11, 37),
-        _ => no_place(sub, code),
-    }
-}
-
-fn operation_at(bits: u8, sub: u8, option: u8, compare: u8, set: u8) -> Place
-    ensures { λ r. ⌜ r ≡ placeOf (operationOf (groupOf bits) sub option compare set) ⌝ }
-{
-    match bits {
-        0 => branch_at(sub, option),
-        1 => from_one(sub, compare, 7, 15),
-        2 => set_at(sub, set),
-        _ => no_place(sub, set),
-    }
-}
-
-fn group_at(bits: u8) -> Pair
-    ensures { λ r. ⌜ r ≡ groupPair (groupOf bits) ⌝ }
-{
-    match bits {
-        0 => pair_of(0, 0),
-        1 => pair_of(1, 0),
-        2 => pair_of(2, 0),
-        _ => pair_of(3, bits as u32),
-    }
-}
-
-fn operand_at(there: bool, immediate: bool, word: u32) -> Pair
-    ensures { λ r. ⌜ r ≡ operandPair (operandOf there immediate word) ⌝ }
-{
-    if there {
-        if immediate {
-            return pair_of(1, word);
-        }
-        if word < 0x8000_0000 {
-            return pair_of(2, word % 4096);
-        }
-        if word < 0xC000_0000 {
-            return pair_of(3, word % 4096);
-        }
-        return pair_of(4, word % 4096);
-    }
-    pair_of(0, 0)
+    if test { yes } else { no }
 }
 
 fn wide(byte: u8) -> u32
     ensures { λ r. ⌜ r ≡ byte ⌝ }
 {
     byte as u32
+}
+
+fn row_of(count: u32, first: u32) -> Row
+    ensures { λ r. ⌜ r ≡ rowOf count first ⌝ }
+{
+    Row { count, first }
+}
+
+// The row of the sheet that the low five bits of a command's first byte name, its group and sub-group. Each has its arm, so
+// that the compiler makes a table of them.
+fn row_at(low: u8) -> Row
+    ensures { λ r. ⌜ Numbered (rowIn (groupOf (low / 8)) (low % 8)) r ⌝ }
+{
+    match low {
+        0 => row_of(3, 1),
+        1 => row_of(5, 4),
+        2 => row_of(6, 9),
+        3 => row_of(0, 0),
+        4 => row_of(0, 0),
+        5 => row_of(0, 0),
+        6 => row_of(0, 0),
+        7 => row_of(0, 0),
+        8 => row_of(7, 15),
+        9 => row_of(7, 15),
+        10 => row_of(7, 15),
+        11 => row_of(7, 15),
+        12 => row_of(7, 15),
+        13 => row_of(7, 15),
+        14 => row_of(7, 15),
+        15 => row_of(7, 15),
+        16 => row_of(15, 22),
+        17 => row_of(11, 37),
+        18 => row_of(0, 0),
+        19 => row_of(0, 0),
+        20 => row_of(0, 0),
+        21 => row_of(0, 0),
+        22 => row_of(0, 0),
+        23 => row_of(0, 0),
+        24 => row_of(0, 0),
+        25 => row_of(0, 0),
+        26 => row_of(0, 0),
+        27 => row_of(0, 0),
+        28 => row_of(0, 0),
+        29 => row_of(0, 0),
+        30 => row_of(0, 0),
+        31 => row_of(0, 0),
+        _ => row_of(0, 0),
+    }
+}
+
+// The place in its row of a code that counts from 1; 0 has one that no row reaches.
+fn from_one(code: u8) -> u32
+    ensures { λ r. ⌜ r ≡ (code + 255) % 256 ⌝ }
+{
+    (wide(code) + 255) % 256
+}
+
+// The operation at a place in a row; past its end it is unknown.
+fn placed(at: u32, row: Row, sub: u32, code: u32) -> Place
+    requires { ⌜ row .first + row .count ≤ 48 ⌝ }
+    ensures { λ r. ⌜ r ≡ rowPlace at (row .count) (row .first) sub code ⌝ }
+{
+    if at < row.count {
+        return Place {
+            number: row.first + at,
+            sub: 0,
+            code: 0,
+        };
+    }
+    Place {
+        number: 0,
+        sub,
+        code,
+    }
+}
+
+fn operation_at(low: u8, option: u8, compare: u8, set: u8) -> Place
+    ensures { λ r. ⌜ r ≡ placeOf (operationOf (groupOf (low / 8)) (low % 8) option compare set) ⌝ }
+{
+    let group = low / 8;
+    let sub = wide(low % 8);
+    let row = row_at(low);
+    let other = either(group == 1, wide(compare), wide(set));
+    let code = either(group == 0, wide(option), other);
+    let after = either(group == 1, from_one(compare), from_one(set));
+    let at = either(group == 0, wide(option), after);
+    placed(at, row, sub, code)
+}
+
+fn group_kind(bits: u8) -> u32
+    ensures { λ r. ⌜ r ≡ groupPair (groupOf bits) .kind ⌝ }
+{
+    either(bits < 3, wide(bits), 3)
+}
+
+fn group_value(bits: u8) -> u32
+    ensures { λ r. ⌜ r ≡ groupPair (groupOf bits) .value ⌝ }
+{
+    either(bits < 3, 0, wide(bits))
+}
+
+fn operand_kind(there: bool, immediate: bool, word: u32) -> u32
+    ensures { λ r. ⌜ r ≡ operandPair (operandOf there immediate word) .kind ⌝ }
+{
+    let status = either(word < 0xC000_0000, 3, 4);
+    let register = either(word < 0x8000_0000, 2, status);
+    let operand = either(immediate, 1, register);
+    either(there, operand, 0)
+}
+
+// The value of an operand whose word is 0 if it is absent.
+fn operand_value(immediate: bool, word: u32) -> u32
+    ensures { λ r. ⌜ r ≡ cond immediate word (word % 4096) ⌝ }
+{
+    either(immediate, word, word % 4096)
 }
 
 // The numbers of the command that twelve bytes are.
@@ -469,27 +493,25 @@ pub fn numbers_of(bytes: &[u8; 12]) -> [u32; 13]
     let flags = bytes[1];
     let count = head / 32;
     let bits = head / 8 % 4;
-    let sub = head % 8;
     let immediate1 = flags / 128 == 1;
     let immediate2 = flags / 64 % 2 == 1;
-    let group = group_at(bits);
-    let operation = operation_at(bits, sub, flags % 16, bytes[2], bytes[3]);
-    let a = operand_at(count >= 1, immediate1, common::be32(bytes, 4));
-    let b = operand_at(count >= 2, immediate2, common::be32(bytes, 8));
+    let operation = operation_at(head % 32, flags % 16, bytes[2], bytes[3]);
+    let a = either(count >= 1, common::be32(bytes, 4), 0);
+    let b = either(count >= 2, common::be32(bytes, 8), 0);
     [
         wide(count),
-        group.kind,
-        group.value,
-        wide(sub),
+        group_kind(bits),
+        group_value(bits),
+        wide(head % 8),
         flag_number(immediate1),
         flag_number(immediate2),
         operation.number,
         operation.sub,
         operation.code,
-        a.kind,
-        a.value,
-        b.kind,
-        b.value,
+        operand_kind(count >= 1, immediate1, a),
+        operand_value(immediate1, a),
+        operand_kind(count >= 2, immediate2, b),
+        operand_value(immediate2, b),
     ]
 }
 
