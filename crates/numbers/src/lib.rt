@@ -31,20 +31,20 @@ use vm::NavRequest;
 use vm::Step;
 
 // A kind and its value: of a group, an operand, an option.
-pub struct Pair {
+struct Pair {
     pub kind: u32,
     pub value: u32,
 }
 
 // An operation: its place on the sheet, and the sub-group and code of one that has none.
-pub struct Place {
+struct Place {
     pub number: u32,
     pub sub: u32,
     pub code: u32,
 }
 
 // A row of the sheet: how many operations, and the number of the first.
-pub struct Row {
+struct Row {
     pub count: u32,
     pub first: u32,
 }
@@ -325,7 +325,7 @@ fn operand_pair(operand: Operand) -> Pair
     }
 }
 
-pub fn command_numbers(command: DecodedCommand) -> [u32; 13]
+fn command_numbers(command: DecodedCommand) -> [u32; 13]
     ensures { λ r. ⌜ r ≡ commandNumbers command ⌝ }
 {
     let group = command.group;
