@@ -6,6 +6,7 @@
 use mescjadro_compare::bdmv::movie_object::NavCommand;
 use mescjadro_compare::bdmv::vm::{HdmvVm, NavRequest, Step, probe};
 use mescjadro_compare::chance::Chance;
+use mescjadro_compare::generate::commands::count;
 use mescjadro_compare::numbers::system;
 use std::io::Write;
 
@@ -25,15 +26,6 @@ fn register(c: &mut Chance) -> u32 {
 
 fn operand(c: &mut Chance, immediate: bool) -> u32 {
     if immediate { c.one(&VALUES) } else { register(c) }
-}
-
-fn count(c: &mut Chance) -> u32 {
-    match c.below(10) {
-        0 => 0,
-        1 => 1,
-        2 => c.below(8) as u32,
-        _ => 2,
-    }
 }
 
 /// A command: jumps, compares, swaps and protected registers come up often.

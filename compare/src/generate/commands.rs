@@ -75,7 +75,8 @@ fn operand(c: &mut Chance, immediate: bool) -> u32 {
     if immediate { value(c) } else { register(c) }
 }
 
-fn count(c: &mut Chance) -> u32 {
+/// An operand count: mostly both.
+pub fn count(c: &mut Chance) -> u32 {
     match c.below(10) {
         0 => 0,
         1 => 1,
@@ -144,21 +145,13 @@ fn transfer_by(c: &mut Chance, option: u32, to: u32) -> Words {
 /// A command for a drive over so many objects and titles.
 pub fn for_drive(c: &mut Chance, objects: u64, titles: u64) -> Words {
     match c.below(24) {
-        0 | 1 => {
+        n @ 0..=5 => {
             let to = object(c, objects);
-            transfer_by(c, JUMP_OBJECT, to)
+            transfer_by(c, if n < 2 { JUMP_OBJECT } else { CALL_OBJECT }, to)
         }
-        2..=5 => {
-            let to = object(c, objects);
-            transfer_by(c, CALL_OBJECT, to)
-        }
-        6 | 7 => {
+        n @ 6..=11 => {
             let to = title(c, titles);
-            transfer_by(c, JUMP_TITLE, to)
-        }
-        8..=11 => {
-            let to = title(c, titles);
-            transfer_by(c, CALL_TITLE, to)
+            transfer_by(c, if n < 8 { JUMP_TITLE } else { CALL_TITLE }, to)
         }
         12 => RESUME,
         13 => BREAK,
