@@ -59,20 +59,27 @@ blanked i a b = rw (blanks-more i) (then a b)
 pub at-most : (base n : ℕ) → 1 < base → n < 2 ^ 32 → length (numeral base n) ≤ 32
 at-most base n b h = few-digits 31 base n b h (lt-of-lt-of-le h (pow-le-pow-left b 32))
 
--- What the loop that counts them keeps: those counted and those of what is left are one more than all.
+-- What counting them keeps: those counted and those of what is left are one more than all.
 pub record Counting (base n count left : ℕ) : Type 0 where
   pub inside : left ≤ n
   pub both : count + length (numeral base left) ≡ length (numeral base n) + 1
 
-pub count-on : {base n count left : ℕ} → 1 < base → n < 2 ^ 32 → base ≤ left → Counting base n count left → Counting base n (count + 1) (left / base)
-count-on {base} {n} {count} {left} b h g c =
-    let fits : left < 2 ^ 32 = lt-of-le-of-lt (c .inside) h in
-    let one : length (numeral base left) ≡ length (numeral base (left / base)) + 1 =
-    ap length (more-digits base left b fits g) ∙ length-append (numeral base (left / base)) (glyphOf (left % base) ∷ []) in
-    record { inside = le-trans (div-le-self left base) (c .inside); both = omega (arith, c .both) }
+module _ {base n : ℕ} (b : 1 < base) (h : n < 2 ^ 32) where
+  pub count-starts : Counting base n 1 n
+  count-starts = record { inside = le-refl n; both = omega arith }
 
-pub count-ends : {base n count left : ℕ} → left < base → Counting base n count left → count ≡ length (numeral base n)
-count-ends {base} {left = left} h c = let one : length (numeral base left) ≡ 1 = ap length (one-digit base left h) in omega (arith, c .both)
+  pub count-on : {count left : ℕ} → base ≤ left → Counting base n count left → Counting base n (count + 1) (left / base)
+  count-on {count} {left} g c =
+      let fits : left < 2 ^ 32 = lt-of-le-of-lt (c .inside) h in
+      let one : length (numeral base left) ≡ length (numeral base (left / base)) + 1 =
+      ap length (more-digits base left b fits g) ∙ length-append (numeral base (left / base)) (glyphOf (left % base) ∷ []) in
+      record { inside = le-trans (div-le-self left base) (c .inside); both = omega (arith, c .both) }
+
+  pub count-ends : {count left : ℕ} → left < base → Counting base n count left → (count ≡ length (numeral base n)) × (count ≤ 32)
+  count-ends {count} {left} g c =
+      let one : length (numeral base left) ≡ 1 = ap length (one-digit base left g) in
+      let all : count ≡ length (numeral base n) = omega (arith, c .both) in
+      (all, omega (arith, at-most base n b h))
 
 -- the k last digits of a number
 
