@@ -1,7 +1,10 @@
 // What the programs share: files and numbers from the command line, and the words for refusals.
+ghost use mathlib.Core.Path.{_≡_};
+ghost use lib.ListN.{drop};
+ghost use Rattle.io.specs.Counts.{Counts};
+ghost use Rattle.console.specs.Rules.{beginsWith, isDigit, numberOf, noNumber, goesOn, numberIn};
 use error::Refusal;
 use libc::STDOUT_FILENO;
-ghost use Rattle.io.specs.Counts.{Counts};
 
 pub fn say(words: &[u8]) {
     io::write_all(STDOUT_FILENO, words);
@@ -63,7 +66,19 @@ pub struct Decimal {
     pub fits: bool,
 }
 
-fn not_a_number(end: usize) -> Decimal {
+fn number(value: u32, end: usize) -> Decimal
+    ensures { λ r. ⌜ r ≡ numberOf value end ⌝ }
+{
+    Decimal {
+        value,
+        end,
+        fits: true,
+    }
+}
+
+fn no_number(end: usize) -> Decimal
+    ensures { λ r. ⌜ r ≡ noNumber end ⌝ }
+{
     Decimal {
         value: 0,
         end,
@@ -71,36 +86,49 @@ fn not_a_number(end: usize) -> Decimal {
     }
 }
 
-// The number from a place of a word on.
-pub fn number_in(word: &[u8], at: usize) -> Decimal {
+fn is_digit(b: u8) -> bool
+    ensures { λ r. ⌜ r ≡ isDigit b ⌝ }
+{
+    (b'0' <= b) & (b <= b'9')
+}
+
+// What the digits from a place on say.
+fn digits_from(word: &[u8], at: usize) -> Decimal
+    ensures { λ r. ⌜ r ≡ goesOn 0 at (drop at (now (word .entry))) ⌝ }
+{
     let mut value: u64 = 0;
     let mut i = at;
     while i < word.len() {
         let b = word[i];
-        if b < b'0' {
-            break;
-        }
-        if b'9' < b {
-            break;
+        if !is_digit(b) {
+            return number(value as u32, i);
         }
         value = value * 10 + ((b - b'0') as u64);
         if 4_294_967_295 < value {
-            return not_a_number(i);
+            return no_number(i);
         }
         i += 1;
     }
-    if i <= at {
-        return not_a_number(at);
+    number(value as u32, i)
+}
+
+// The number from a place of a word on.
+pub fn number_in(word: &[u8], at: usize) -> Decimal
+    ensures { λ r. ⌜ r ≡ numberIn (now (word .entry)) at ⌝ }
+{
+    if word.len() <= at {
+        return no_number(at);
     }
-    Decimal {
-        value: value as u32,
-        end: i,
-        fits: true,
+    if !is_digit(word[at]) {
+        return no_number(at);
     }
+    digits_from(word, at)
 }
 
 // Whether a word begins with another.
-pub fn begins(word: &[u8], with: &[u8]) -> bool {
+pub fn begins(word: &[u8], with: &[u8]) -> bool
+    ensures { λ r. ⌜ r ≡ beginsWith (now (word .entry)) (now (with .entry)) ⌝ }
+{
     let mut i = 0;
     while i < with.len() {
         if word.len() <= i {

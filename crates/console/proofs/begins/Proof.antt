@@ -1,52 +1,33 @@
-use Prim.Native.Nat.{_-_, _≤_}
-use lib.ListN.{length}
+-- `begins` compares byte after byte: what is left of both words says what the whole words say. Assumes nothing.
+use mathlib.Core.Path.{_≡_, refl, sym, _∙_}
+use Prim.Native.Nat.{_-_}
+use lib.ListN.{length, drop}
 use borrow.Author.Needs.{needs}
+use Rattle.console.specs.Laws.{all-compared, too-short, other-byte, same-byte}
+use Rattle.console.specs.Rules.{beginsWith}
 use Rattle.console.proofs.begins.Statement.{statement}
 use Rattle.console.proofs.begins.Tie as tie
-use Rattle.console.proofs.begins.Reads as reads
-use Rattle.console.proofs.begins.Lts as lts
 
 abbrev Inv-loop : tie.InvT-loop
-Inv-loop word with i₀ i = Unit {0}
+Inv-loop word with i₀ i = beginsWith word with ≡ beginsWith (drop i word) (drop i with)
 
 abbrev μ-loop : tie.MeasureT-loop
 μ-loop word with i₀ i = length with - i
 
--- src/lib.rt:98:5
 loop-holds : tie.Need-loop-holds Inv-loop μ-loop
-loop-holds c = search needs
+loop-holds c = refl
 
--- src/lib.rt:100:13
 returns : tie.Need-returns Inv-loop μ-loop
-returns c = search needs
+returns c = sym (c .before .before .loop .inv ∙ too-short _ _ _ (c .if1 .taken) (c .before .loop-test .taken))
 
--- src/lib.rt:102:12
-shared-slice-read-if2 : tie.Need-shared-slice-read-if2 Inv-loop μ-loop
-shared-slice-read-if2 c = search needs
-
--- src/lib.rt:102:23
-shared-slice-read-if2-2 : tie.Need-shared-slice-read-if2-2 Inv-loop μ-loop
-shared-slice-read-if2-2 c = search needs
-
--- src/lib.rt:103:13
 returns-2 : tie.Need-returns-2 Inv-loop μ-loop
-returns-2 c = search needs
+returns-2 c = sym (c .before .before .before .before .before .loop .inv ∙ other-byte _ _ _ (c .before .before .before .if1 .left) (c .before .before .before .before .loop-test .taken) (c .if2 .taken))
 
--- src/lib.rt:105:9
-add-i : tie.Need-add-i Inv-loop μ-loop
-add-i c = search needs
-
--- src/lib.rt:98:5
-loop-less : tie.Need-loop-less Inv-loop μ-loop
-loop-less c = search needs
-
--- src/lib.rt:98:5
 loop-again : tie.Need-loop-again Inv-loop μ-loop
-loop-again c = search needs
+loop-again c = c .before .before .before .before .before .loop .inv ∙ same-byte _ _ _ (c .before .before .before .if1 .left) (c .before .before .before .before .loop-test .taken) (c .if2 .left)
 
--- src/lib.rt:96:1
 returns-3 : tie.Need-returns-3 Inv-loop μ-loop
-returns-3 c = search needs
+returns-3 c = sym (c .before .loop .inv ∙ all-compared _ _ _ (c .loop-test .left))
 
 pub begins-spec : {M : Type 1} → statement M
 begins-spec =
@@ -56,10 +37,10 @@ begins-spec =
     μ-loop
     loop-holds
     returns
-    shared-slice-read-if2
-    shared-slice-read-if2-2
+    (λ c. search needs)
+    (λ c. search needs)
     returns-2
-    add-i
-    loop-less
+    (λ c. search needs)
+    (λ c. search needs)
     loop-again
     returns-3)
