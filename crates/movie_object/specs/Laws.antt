@@ -1,5 +1,5 @@
 -- Laws of places, of the verdict, and of an object's commands. Assumes nothing.
-use mathlib.Core.Path.{_≡_, refl, sym, _∙_, ap}
+use mathlib.Core.Path.{_≡_, refl, sym, _∙_, ap, subst}
 use mathlib.Core.Bool.{Bool, true, false, cond}
 use mathlib.Core.List.{List, []}
 use Prim.Native.Nat.{ℕ, zero, suc, _+_, _*_, _-_, _/_, _%_, _≤_, _<_}
@@ -235,6 +235,42 @@ filled-placed s t f h = record { room = h; at = λ k b. f .at k b (omega arith) 
 pub record Heads (s : List ℕ) (n : ℕ) (t : List ℕ) (r : Verdict) : Type 0 where
   pub judged : r ≡ cond (leb (place s n) (length s)) Fine (Refused BadBody)
   pub filled : r ≡ Fine → Filled s n t
+
+-- after k of n heads: the place past them, and the table as far as it reaches
+pub record Walking (s : List ℕ) (n : ℕ) (t : List ℕ) (at k : ℕ) : Type 0 where
+  pub passed : k ≤ n
+  pub here : at ≡ place s k
+  pub inside : at ≤ length s
+  pub filled : Filled s k t
+
+module _ {s t : List ℕ} {n at k : ℕ} (w : Walking s n t at k) where
+  -- one head more
+  pub walk-on : {u : List ℕ} {to : ℕ} → k < n → u ≡ set t k at → to ≡ next s at → to ≤ length s → Walking s n u to (k + 1)
+  walk-on {u} {to} h put e l =
+      record {
+        passed = omega arith;
+        here = e ∙ place-after s k at (w .here);
+        inside = l;
+        filled = subst (Filled s (k + 1)) (sym put) (filled-more s t k at (w .filled) (w .here));
+      }
+
+  -- an object that passes the end, and the end of the walk
+  pub walk-stops : {u : List ℕ} → k < n → length s < next s at → Heads s n u (Refused BadBody)
+  walk-stops h past =
+      let l : length s < place s n = omega (arith, place-after s k at (w .here), place-mono s (k + 1) n (omega arith)) in
+      record {
+        judged = simp (lt-leb _ _ l);
+        filled = λ e. let z : _≡_ {A = ℕ} 0 1 = cc in absurd (omega arith);
+      }
+
+  pub walk-ends : n ≤ k → Heads s n t Fine
+  walk-ends h =
+      let e : k ≡ n = omega (arith, w .passed) in
+      let l : place s n ≤ length s = omega (arith, w .inside, w .here ∙ ap (place s) e) in
+      record {
+        judged = simp (le-leb _ _ l);
+        filled = λ g. subst (λ (i : ℕ). Filled s i t) e (w .filled);
+      }
 
 -- what the walk answers in each case
 module _ (s t : List ℕ) where

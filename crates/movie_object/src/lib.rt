@@ -15,7 +15,7 @@ ghost use lib.ListN.{length, set, take, drop};
 ghost use Rattle.common.specs.Rules.{be2, seekOf};
 ghost use Rattle.error.specs.declared.Verdict.the-variants.{Fine};
 ghost use Rattle.movie_object.specs.Rules.{countOf, next, place, verdictOf, commandsOf, Placed, Walked, parseOf, headAt, foundAs, onDisc, headOf, objectOf, partOf};
-ghost use Rattle.movie_object.specs.Laws.{countRead, Heads};
+ghost use Rattle.movie_object.specs.Laws.{countRead, Heads, Walking};
 
 // The letters MOBJ.
 const MOBJ: u32 = 0x4D4F424A;
@@ -42,6 +42,12 @@ pub struct MovieObject {
 pub enum Object {
     Found(MovieObject),
     Refused(Refusal),
+}
+
+// How far a walk of the heads has come: a place, and how many heads stand before it.
+struct Passed {
+    at: usize,
+    heads: u16,
 }
 
 impl MovieObjects {
@@ -135,17 +141,46 @@ fn walk(file: &[u8], first: Reader, n: u16, places: &mut [u32]) -> Verdict
     requires { ⌜ (length (now file) ≤ 16777216) × (78 ≤ length (now file)) × (first .pos ≡ 78) ⌝ }
     ensures { λ r. ⌜ Heads (now (file .entry)) n (now (places .exit)) r ⌝ }
 {
-    let mut at = first;
+    let mut at = first.pos;
     let mut k: u16 = 0;
     while k < n {
-        put_place(places, k as usize, at.pos as u32);
-        let Moved::To(next) = skip_object(file, at) else {
+        put_place(places, k as usize, at as u32);
+        let Moved::To(next) = skip_object(file, Reader { pos: at }) else {
             return Verdict::Refused(Refusal::BadBody);
         };
-        at = next;
-        k += 1;
+        let size = next.pos - at;
+        let passed = skip_alike(file, next.pos, size, k + 1, n, places);
+        at = passed.at;
+        k = passed.heads;
     }
     Verdict::Fine
+}
+
+fn come_to(at: usize, heads: u16) -> Passed
+    ensures { λ r. ⌜ (r .at ≡ at) × (r .heads ≡ heads) ⌝ }
+{
+    Passed { at, heads }
+}
+
+// Past the objects that are as long as the one before them: their size is at hand, so that no read waits for the last one.
+fn skip_alike(file: &[u8], from: usize, size: usize, k: u16, n: u16, places: &mut [u32]) -> Passed
+    requires { ⌜ (length (now file) ≤ 16777216) × (4 ≤ size) × Walking (now file) n (now places) from k ⌝ }
+    ensures { λ r. ⌜ (k ≤ r .heads) × Walking (now (file .entry)) n (now (places .exit)) (r .at) (r .heads) ⌝ }
+{
+    let mut at = from;
+    let mut i = k;
+    while i < n {
+        if file.len() - at < size {
+            return come_to(at, i);
+        }
+        if 4 + 12 * (be16(file, at + 2) as usize) != size {
+            return come_to(at, i);
+        }
+        put_place(places, i as usize, at as u32);
+        at = at + size;
+        i += 1;
+    }
+    come_to(at, i)
 }
 
 // Past one object: two flag bytes, the number of commands, and the commands.
