@@ -16,6 +16,14 @@ pub fn disc_of_length(length: usize, commands: usize) -> Disc {
     discs::of(vec![hdmv(0)], vec![commands; objects])
 }
 
+/// The same with objects of two sizes in turn, so that no object is as long as the one before it.
+fn disc_of_two_sizes(length: usize, few: usize, many: usize) -> Disc {
+    let pairs = ((length - 78) / (8 + 12 * (few + many))).min(32_767);
+    let commands = |count: usize| (0..count).map(|n| assign(n as u32 % 4096, n as u32)).collect::<Vec<_>>();
+    let objects = (0..2 * pairs).map(|n| commands(if n % 2 == 0 { few } else { many })).collect();
+    discs::of(vec![hdmv(0)], objects)
+}
+
 pub fn read_objects(file: &[u8]) {
     let mut result = [0; 2];
     let refusal = unsafe { raw::mescjadro_objects(file.as_ptr(), file.len(), result.as_mut_ptr(), result.len()) };
@@ -48,6 +56,10 @@ pub fn reading(table: &mut Table) {
     objects_row(table, "100 commands an object", &disc_of_length(16 * MIB, 100), Some(20.0));
     objects_row(table, "1 command an object", &disc_of_length(MIB, 1), Some(8.0));
     objects_row(table, "21 commands an object, the most objects", &disc_of_length(16 * MIB, 21), Some(8.0));
+    objects_row(table, "99 and 101 commands in turn", &disc_of_two_sizes(MIB, 99, 101), None);
+    objects_row(table, "99 and 101 commands in turn", &disc_of_two_sizes(16 * MIB, 99, 101), None);
+    objects_row(table, "1 and 2 commands in turn", &disc_of_two_sizes(MIB, 1, 2), None);
+    objects_row(table, "20 and 22 commands in turn", &disc_of_two_sizes(16 * MIB, 20, 22), None);
     index_row(table, "read an index of 65,535 titles, movie objects", hdmv(7), 4.0);
     index_row(table, "read an index of 65,535 titles, BD-J", bdj(*b"00001"), 8.0);
 }
