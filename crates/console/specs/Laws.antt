@@ -9,6 +9,7 @@ use lib.Dec.{leb}
 use lib.ListN.{length, drop, getD, drop-of-length-le, List·getD-eq-default}
 use lib.Seq.{drop-cons}
 use borrow.Author.Tests.{leb-true, le-leb, lt-leb, eq-eqb, ne-eqb}
+use Rattle.laws.specs.Cases.{both}
 use Rattle.console.specs.Rules.{beginsWith, isDigit, more, numberOf, noNumber, goesOn, numberIn}
 
 -- a word and what it is to begin with, from place i on
@@ -32,10 +33,6 @@ unfolding beginsWith
 same-byte word with i h g e = rw (drop-cons word i 0 h, drop-cons with i 0 g, eq-eqb _ _ e, add-one i)
 
 -- digits
-
-both : (a b : Bool) → a && b ≡ true → (a ≡ true) × (b ≡ true)
-both true b e = (refl, e)
-both false b e = let z : _≡_ {A = ℕ} 0 1 = cc in absurd (omega arith)
 
 pub digit : (b : ℕ) → isDigit b ≡ true → (48 ≤ b) × (b ≤ 57)
 digit b e = let t = both (leb 48 b) (leb b 57) e in (leb-true 48 b (t .0), leb-true b 57 (t .1))

@@ -16,6 +16,7 @@ use Rattle.error.specs.declared.Refusal.the-variants.{NotAnEntry}
 use Rattle.error.specs.declared.Verdict.{Verdict}
 use Rattle.error.specs.declared.Verdict.the-variants as verdict
 use Rattle.error.specs.Rules.{refusedIf, firstOf}
+use Rattle.error.specs.Laws.{both-fine}
 use Rattle.index_bdmv.specs.Rules.{resolveOf, verdictOf as indexVerdict}
 use Rattle.index_bdmv.specs.declared.Lead.{Lead}
 use Rattle.index_bdmv.specs.declared.Lead.the-variants as L
@@ -444,10 +445,6 @@ module _ (x file : List ℕ) (sound : Sound x file) (b : Budgets) where
       (λ v g z. titles-safe (b .titles) v g z)
 
 -- The calls: what a call that is not refused was handed, and what it leaves.
-
-both-fine : (u v : Verdict) → firstOf u v ≡ verdict.Fine → (u ≡ verdict.Fine) × (v ≡ verdict.Fine)
-both-fine verdict.Fine v h = (refl, h)
-both-fine (verdict.Refused r) v h = let z : _≡_ {A = ℕ} 0 1 = cc in absurd (omega arith)
 
 -- the registers are 4,096 and 128 numbers, and the start is one
 pub record Handed (start : Start) (w : Rooms Session) : Type 0 where

@@ -15,6 +15,7 @@ use Rattle.common.specs.declared.Moved.the-variants as moved
 use Rattle.common.specs.Rules.{be2, be4, reader, headerOf}
 use Rattle.common.specs.Laws.{Took, Headed, headed}
 use Rattle.error.specs.Rules.{firstOf}
+use Rattle.error.specs.Laws.{both-fine}
 use Rattle.error.specs.declared.Refusal.{Refusal}
 use Rattle.error.specs.declared.Refusal.the-variants.{BadBody, BadEntry}
 use Rattle.error.specs.declared.Verdict.{Verdict}
@@ -25,11 +26,6 @@ use Rattle.index_bdmv.specs.declared.Place.{Place}
 use Rattle.index_bdmv.specs.declared.Place.the-variants.{At, Nowhere}
 
 -- ---- tests in their order
-
--- where both are fine, each is
-pub both-fine : (a b : Verdict) → firstOf a b ≡ Fine → (a ≡ Fine) × (b ≡ Fine)
-both-fine Fine b e = (refl, e)
-both-fine (Refused r) b e = let z : _≡_ {A = ℕ} 0 1 = cc in absurd (omega arith)
 
 -- a test that passes before one that refuses
 yes-fine : (t : Bool) (a b : Verdict) (r : Refusal) → b ≡ Refused r → cond t a b ≡ Fine → (t ≡ true) × (a ≡ Fine)

@@ -2,17 +2,17 @@
 use mathlib.Core.Path.{_≡_}
 use mathlib.Core.List.{List, [], _∷_, _++_}
 use Prim.Native.Nat.{ℕ, _/_, _%_}
-use lib.ListN.{replicate, set}
+use lib.ListN.{set}
 use Rattle.nav_command.specs.Rules.{commandOf}
 use Rattle.nav_command.specs.declared.BranchOp.the-variants as B
 use Rattle.nav_command.specs.declared.CompareOp.the-variants as C
 use Rattle.nav_command.specs.declared.SetOp.the-variants as S
 use Rattle.nav_command.specs.declared.Operation.{Operation}
 use Rattle.nav_command.specs.declared.Operation.the-variants as O
-use Rattle.vm.specs.declared.End.the-variants.{Spent}
+use Rattle.registers.specs.Rules.{freshGeneral, freshStatus}
 use Rattle.vm.specs.declared.Step.the-variants.{Continue, Skipped, Halted}
 use Rattle.vm.specs.declared.Stepped.{Stepped}
-use Rattle.vm.specs.Rules.{Banks, banks, After, after, stepped, ran, fetched, stepOf, runOf}
+use Rattle.vm.specs.Rules.{Banks, banks, After, after, stepped, fetched, stepOf}
 
 -- the bytes of a command's three words
 abbrev pub bytes : ℕ → List ℕ
@@ -21,12 +21,11 @@ bytes w = w / 0x100_0000 ∷ w / 0x1_0000 % 256 ∷ w / 0x100 % 256 ∷ w % 256 
 abbrev pub command : ℕ → ℕ → ℕ → List ℕ
 command w x y = bytes w ++ bytes x ++ bytes y
 
--- a fresh bank of each kind
 abbrev pub general : List ℕ
-general = replicate 4096 0
+general = freshGeneral
 
 abbrev pub status : List ℕ
-status = replicate 128 0
+status = freshStatus
 
 -- from these banks the first of the commands is this operation, and leaves this
 pub record Case : Type 0 where

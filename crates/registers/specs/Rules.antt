@@ -5,7 +5,7 @@ use mathlib.Core.List.{List}
 use Prim.Native.Nat.{ℕ}
 use lib.Bits.{bitAnd, bitOr, bitXor}
 use lib.Dec.{eqb, ltb}
-use lib.ListN.{length, getD, set}
+use lib.ListN.{length, getD, set, replicate}
 use Rattle.word.specs.Word.{addLow, subLow, mulLow, divOr0, modOr0, random, withBit, withoutBit, shiftLeft, shiftRight}
 use Rattle.error.specs.declared.Refusal.{Refusal}
 use Rattle.error.specs.declared.Refusal.the-variants.{BadBuffer}
@@ -35,6 +35,14 @@ pub record Banks : Type 0 where
 
 abbrev pub banks : List ℕ → List ℕ → Banks
 banks g p = record { general = g; status = p }
+
+-- A fresh bank of each kind: all registers are zero.
+
+abbrev pub freshGeneral : List ℕ
+freshGeneral = replicate 4096 0
+
+abbrev pub freshStatus : List ℕ
+freshStatus = replicate 128 0
 
 -- whether an operand names a register: 4,096 are general, 128 status
 abbrev pub names : Operand → Bool

@@ -2,14 +2,14 @@
 ghost use mathlib.Core.Path.{_≡_};
 ghost use mathlib.Core.Bool.{true, false, cond};
 ghost use Prim.Native.Nat.{_%_};
-ghost use lib.ListN.{length, getD, set, replicate};
+ghost use lib.ListN.{length, getD, set};
 ghost use Rattle.register_model.specs.Rules.{classTable};
 ghost use Rattle.nav_command.specs.Rules.{operandOf};
 ghost use Rattle.nav_command.specs.Rules as nav;
 ghost use Rattle.nav_command.specs.declared.Operand.the-variants.{Register};
 ghost use Rattle.nav_command.specs.declared.RegisterBank.the-variants.{Gpr, Psr};
 ghost use Rattle.registers.specs.Laws.{Full, OneAnswer};
-ghost use Rattle.registers.specs.Rules.{banks, valueOf, writtenStatus, written, effectFor, appliedIn, setIn, refuses, bankOf, readOf, putOf, meant};
+ghost use Rattle.registers.specs.Rules.{banks, freshGeneral, freshStatus, valueOf, writtenStatus, written, effectFor, appliedIn, setIn, refuses, bankOf, readOf, putOf, meant};
 use error::Refusal;
 use error::Verdict;
 
@@ -270,7 +270,7 @@ impl Registers {
     pub const PSR_COUNT: usize = 128;
 
     pub fn new() -> Self
-        ensures { λ r. ⌜ (r .gpr ≡ replicate 4096 0) × (r .psr ≡ replicate 128 0) ⌝ }
+        ensures { λ r. ⌜ (r .gpr ≡ freshGeneral) × (r .psr ≡ freshStatus) ⌝ }
     {
         Self {
             gpr: [0; 4096],

@@ -8,6 +8,7 @@ use native.Mathlib.Omega.{arith}
 use lib.Dec.{ltb}
 use lib.ListN.{length, take, drop, getD}
 use borrow.Author.Tests.{le-leb, ltb-true}
+use Rattle.laws.specs.Cases.{both}
 use Rattle.laws.specs.Part.{part-cons}
 use Rattle.utf8.specs.Rules.{fresh, leadOf, stepOf, isWhole, allAscii, scanOf, isUtf8}
 use Rattle.utf8.specs.declared.Scan.{Scan}
@@ -32,10 +33,6 @@ five s at u1 u2 u3 u4 u5 h e1 e2 e3 e4 e5 = rw (bytes5 s at h, ← e1, ← e2, �
 alone : (b : ℕ) → b < 128 → stepOf fresh b ≡ fresh
 unfolding stepOf leadOf
 alone b h = simp (le-leb 0 b (omega arith), le-leb b 127 (omega arith))
-
-both : (a b : Bool) → a && b ≡ true → (a ≡ true) × (b ≡ true)
-both true b e = (refl, e)
-both false b e = let z : _≡_ {A = ℕ} 0 1 = cc in absurd (omega arith)
 
 -- the fast path: five such bytes are UTF-8
 pub ascii : (s : List ℕ) (at : ℕ) → at + 5 ≤ length s

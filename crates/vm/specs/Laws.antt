@@ -13,6 +13,7 @@ pub use Rattle.registers.specs.Laws.{Unique, unique, Sized}
 use Rattle.registers.specs.Laws.{sized-set, fine-bank}
 use Rattle.registers.specs.Rules.{bankOf}
 use Rattle.error.specs.Rules.{firstOf}
+use Rattle.error.specs.Laws.{both-fine}
 use Rattle.error.specs.declared.Verdict.{Verdict}
 use Rattle.error.specs.declared.Verdict.the-variants as Fit
 use Rattle.nav_command.specs.declared.BranchOp.{BranchOp}
@@ -47,10 +48,6 @@ one-answer =
     }
 
 -- What the tests of the input tell where they pass: both banks have all their registers.
-
-both-fine : (u v : Verdict) → firstOf u v ≡ Fit.Fine → (u ≡ Fit.Fine) × (v ≡ Fit.Fine)
-both-fine Fit.Fine v h = (refl, h)
-both-fine (Fit.Refused r) v h = let z : _≡_ {A = ℕ} 0 1 = cc in absurd (omega arith)
 
 pub fine-banks : (cs : List ℕ) (budget : ℕ) (s : Banks) → verdictOf cs budget s ≡ Fit.Fine → Sized 4096 128 s
 fine-banks cs budget s h =

@@ -1,6 +1,6 @@
 use mathlib.Core.Path.{sym, _∙_}
 use borrow.Author.Needs.{needs}
-use Rattle.index_bdmv.specs.Laws.{both-fine}
+use Rattle.error.specs.Laws.{both-fine}
 use Rattle.index_bdmv.specs.Rules.{resolveMovieObject, verdictOf, isEntry}
 use denote.Ref.{now}
 use Rattle.index_bdmv.proofs.IndexBdmv.resolve_movie_object.Statement.{statement}
