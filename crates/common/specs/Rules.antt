@@ -1,9 +1,8 @@
 -- Big-endian reads at a position, and the test that every file of the disc begins with (document 01, module 2 and "Numbers and bounds").
 -- Assumes nothing.
-use mathlib.Core.Path.{_≡_}
-use mathlib.Core.Bool.{Bool, true, false, cond}
+use mathlib.Core.Bool.{cond}
 use mathlib.Core.List.{List, [], _∷_}
-use Prim.Native.Nat.{ℕ, _+_, _*_, _/_, _%_, _≤_, _<_}
+use Prim.Native.Nat.{ℕ, _+_, _*_, _/_, _%_}
 use lib.Dec.{leb, ltb, eqb}
 use lib.ListN.{length, getD}
 use Rattle.error.specs.declared.Refusal.the-variants.{TooLong, BadHeader, BadBody}
@@ -60,8 +59,3 @@ headerOf kind s =
     cond (ltb limit (length s)) (verdict.Refused TooLong)
     (cond (ltb (length s) 40) (verdict.Refused BadHeader)
     (cond (eqb (be4 s 0) kind) verdict.Fine (verdict.Refused BadHeader)))
-
--- r says whether a is at most b
-pub record AtMost (a b : ℕ) (r : Bool) : Type 0 where
-  pub yes : r ≡ true → a ≤ b
-  pub no : r ≡ false → b < a

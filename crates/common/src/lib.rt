@@ -6,7 +6,8 @@ ghost use Prim.Native.Nat.{_+_, _*_, _≤_};
 ghost use lib.ListN.{length, getD, replicate};
 ghost use Rattle.laws.specs.Firsts.{allBelow};
 ghost use Rattle.laws.specs.Over.{over};
-ghost use Rattle.common.specs.Rules.{be2, be4, bytes2, bytes4, reader, seekOf, readU8, readU16, readU32, headerOf, AtMost};
+ghost use Rattle.common.specs.Rules.{be2, be4, bytes2, bytes4, reader, seekOf, readU8, readU16, readU32, headerOf};
+ghost use Rattle.common.specs.Pieces.{AtMost};
 
 // A file has at most so many bytes.
 pub const LIMIT: usize = 16777216;

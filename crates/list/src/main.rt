@@ -9,7 +9,8 @@ ghost use Prim.Native.Nat.{_+_, _*_, _≤_};
 ghost use lib.ListN.{length};
 ghost use Rattle.error.specs.declared.Verdict.the-variants.{Fine};
 ghost use Rattle.common.specs.Rules.{be2};
-ghost use Rattle.movie_object.specs.Rules.{verdictOf, Placed};
+ghost use Rattle.movie_object.specs.Rules.{verdictOf};
+ghost use Rattle.movie_object.specs.Pieces.{Placed};
 
 // This program takes at most so many bytes.
 const LIMIT: usize = 65536;

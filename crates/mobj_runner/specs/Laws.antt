@@ -20,7 +20,8 @@ use Rattle.mobj_runner.specs.declared.Follow.{Follow}
 use Rattle.mobj_runner.specs.declared.Follow.the-variants.{Return, Jump, Call, Ask}
 use Rattle.mobj_runner.specs.declared.Turn.{Turn}
 use Rattle.mobj_runner.specs.declared.Turn.the-variants.{Go, Stop}
-use Rattle.mobj_runner.specs.Rules.{World, world, follows, returned, jumped, called, acted, turnOf, driveOf, ended, Settled}
+use Rattle.mobj_runner.specs.Rules.{World, world, follows, returned, jumped, called, acted, turnOf, driveOf, ended}
+use Rattle.mobj_runner.specs.Pieces.{Settled}
 
 stops : {s t : Session} {o : RunOutcome} → Stop s o ≡ Go t → ⊥
 stops h = let z : _≡_ {A = ℕ} 0 1 = cc in omega arith

@@ -1,17 +1,13 @@
 -- Runs of objects: what a turn does, a drive of turns under an object budget, and the runner's calls (document 01,
 -- "Objects and titles"). Assumes nothing.
-use mathlib.Core.Path.{_≡_}
-use mathlib.Core.Bool.{Bool, true, false, cond}
+use mathlib.Core.Bool.{Bool, true, cond}
 use mathlib.Core.List.{List}
-use Prim.Native.Nat.{ℕ, zero, suc, _+_, _-_, _≤_, _<_}
-use lib.Dec.{eqb, leb, ltb}
-use lib.ListN.{length}
+use Prim.Native.Nat.{ℕ, zero, suc, _+_, _-_}
+use lib.Dec.{eqb, leb}
 use Rattle.error.specs.Rules.{firstOf}
-use Rattle.error.specs.declared.Refusal.{Refusal}
 use Rattle.error.specs.declared.Verdict.{Verdict}
 use Rattle.error.specs.declared.Verdict.the-variants as verdict
-use Rattle.register_model.specs.Rules.{classTable}
-use Rattle.movie_object.specs.Rules.{countOf, commandsOf, verdictOf, Placed}
+use Rattle.movie_object.specs.Rules.{countOf, commandsOf, verdictOf}
 use Rattle.session.specs.declared.Session.{Session}
 use Rattle.session.specs.declared.Budgets.{Budgets}
 use Rattle.session.specs.declared.ObjectFrame.{ObjectFrame}
@@ -167,22 +163,3 @@ answered (verdict.Refused r) d w = world (A.Refused r) (w .regs) (w .frames)
 
 unfoldable pub answerOf : List ℕ → Budgets → List ℕ → Start → World Session → World RunAnswer
 answerOf file b titles start w = answered (verdictFor file b titles (waits (w .it) start) w) (begun file b w start) w
-
--- What a drive rests on: the class table, a file that is read with a table of its places, banks of their lengths, and frames
--- that can be counted.
-pub record Ready (classes file places gpr psr frames : List ℕ) : Type 0 where
-  pub classed : classes ≡ classTable
-  pub fine : verdictOf file ≡ verdict.Fine
-  pub placed : Placed file places
-  pub general : length gpr ≡ 4096
-  pub status : length psr ≡ 128
-  pub room : length frames ≤ 131073
-
--- What the tests before a drive settle: the first refusal, and, where there is none, all that a drive rests on but the classes.
-pub record Settled (file places gpr psr frames : List ℕ) (answer expected : Verdict) : Type 0 where
-  pub judged : answer ≡ expected
-  pub fine : answer ≡ verdict.Fine → verdictOf file ≡ verdict.Fine
-  pub placed : answer ≡ verdict.Fine → Placed file places
-  pub general : answer ≡ verdict.Fine → length gpr ≡ 4096
-  pub status : answer ≡ verdict.Fine → length psr ≡ 128
-  pub room : answer ≡ verdict.Fine → length frames ≤ 131073

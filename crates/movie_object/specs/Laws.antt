@@ -21,7 +21,8 @@ use Rattle.error.specs.declared.Refusal.{Refusal}
 use Rattle.error.specs.declared.Refusal.the-variants.{BadBody}
 use Rattle.error.specs.declared.Verdict.{Verdict}
 use Rattle.error.specs.declared.Verdict.the-variants.{Fine, Refused}
-use Rattle.movie_object.specs.Rules.{next, place, countOf, mobj, bodyOf, verdictOf, commandCount, commandsOf, Placed, Walked}
+use Rattle.movie_object.specs.Rules.{next, place, countOf, mobj, bodyOf, verdictOf, commandCount, commandsOf}
+use Rattle.movie_object.specs.Pieces.{Placed, Walked}
 
 -- ---- places
 

@@ -1,8 +1,7 @@
 -- What a MovieObject.bdmv says, and which files are read (document 01, module 5). Assumes nothing.
-use mathlib.Core.Path.{_≡_}
 use mathlib.Core.Bool.{cond}
 use mathlib.Core.List.{List, []}
-use Prim.Native.Nat.{ℕ, zero, suc, _+_, _*_, _/_, _%_, _≤_, _<_}
+use Prim.Native.Nat.{ℕ, zero, suc, _+_, _*_, _/_, _%_}
 use lib.Dec.{leb, ltb}
 use lib.ListN.{length, getD, take, drop}
 use Rattle.common.specs.Rules.{be2, be4, headerOf}
@@ -50,16 +49,6 @@ commandCount s n = be2 s (place s n + 2)
 
 unfoldable pub commandsOf : List ℕ → ℕ → List ℕ
 commandsOf s n = cond (ltb n (countOf s)) (take (12 * commandCount s n) (drop (place s n + 4) s)) []
-
--- A table that holds where each object stands.
-pub record Placed (file places : List ℕ) : Type 0 where
-  pub room : countOf file ≤ length places
-  pub at : (k : ℕ) → k < countOf file → getD places k 0 ≡ place file k
-
--- A walk of the heads judges the file; where it is accepted and the table has room, the table holds the places.
-pub record Walked (file places : List ℕ) (answer : Verdict) : Type 0 where
-  pub judged : answer ≡ verdictOf file
-  pub placed : answer ≡ verdict.Fine → countOf file ≤ length places → Placed file places
 
 -- ---- what the public calls answer
 

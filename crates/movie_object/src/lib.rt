@@ -14,7 +14,8 @@ ghost use Prim.Native.Nat.{_+_, _*_, _≤_, _<_};
 ghost use lib.ListN.{length, set, take, drop};
 ghost use Rattle.common.specs.Rules.{be2, seekOf};
 ghost use Rattle.error.specs.declared.Verdict.the-variants.{Fine};
-ghost use Rattle.movie_object.specs.Rules.{countOf, next, place, verdictOf, commandsOf, Placed, Walked, parseOf, headAt, foundAs, onDisc, headOf, objectOf, partOf};
+ghost use Rattle.movie_object.specs.Rules.{countOf, next, place, verdictOf, commandsOf, parseOf, headAt, foundAs, onDisc, headOf, objectOf, partOf};
+ghost use Rattle.movie_object.specs.Pieces.{Placed, Walked};
 ghost use Rattle.movie_object.specs.Laws.{countRead, Heads, Walking};
 
 // The letters MOBJ.

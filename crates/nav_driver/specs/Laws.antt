@@ -19,7 +19,8 @@ use Rattle.nav_driver.specs.declared.Follow.{Follow}
 use Rattle.nav_driver.specs.declared.Follow.the-variants.{Return, Jump, Call, Yield, End}
 use Rattle.nav_driver.specs.declared.Turn.{Turn}
 use Rattle.nav_driver.specs.declared.Turn.the-variants.{Go, Stop}
-use Rattle.nav_driver.specs.Rules.{Seeded, seeded, follows, jumped, called, returned, acted, objectSide, Rooms, rooms, turnOf, titlesOf, ended, Settled}
+use Rattle.nav_driver.specs.Rules.{Seeded, seeded, follows, jumped, called, returned, acted, objectSide, Rooms, rooms, turnOf, titlesOf, ended}
+use Rattle.nav_driver.specs.Pieces.{Settled}
 
 stops : {s t : Session} {o : DriveOutcome} → Stop s o ≡ Go t → ⊥
 stops h = let z : _≡_ {A = ℕ} 0 1 = cc in omega arith

@@ -1,19 +1,17 @@
 -- Drives of titles: what a title turn does, a drive of turns under a title budget, and the driver's calls (document 01,
 -- "Objects and titles"). Assumes nothing.
-use mathlib.Core.Path.{_≡_}
-use mathlib.Core.Bool.{Bool, true, false, cond}
+use mathlib.Core.Bool.{true, false, cond}
 use mathlib.Core.List.{List}
-use Prim.Native.Nat.{ℕ, zero, suc, _+_, _-_, _%_, _≤_}
+use Prim.Native.Nat.{ℕ, zero, suc, _+_, _-_, _%_}
 use lib.Dec.{eqb, leb, ltb}
-use lib.ListN.{length, set}
+use lib.ListN.{set}
 use Rattle.error.specs.Rules.{firstOf}
-use Rattle.error.specs.declared.Refusal.{Refusal}
 use Rattle.error.specs.declared.Verdict.{Verdict}
 use Rattle.error.specs.declared.Verdict.the-variants as verdict
 use Rattle.index_bdmv.specs.Rules.{resolveOf, verdictOf as indexVerdict}
 use Rattle.index_bdmv.specs.declared.Lead.{Lead}
 use Rattle.index_bdmv.specs.declared.Lead.the-variants as L
-use Rattle.movie_object.specs.Rules.{countOf, verdictOf as objectsVerdict, Placed}
+use Rattle.movie_object.specs.Rules.{countOf, verdictOf as objectsVerdict}
 use Rattle.session.specs.declared.Session.{Session}
 use Rattle.session.specs.declared.Budgets.{Budgets}
 use Rattle.session.specs.declared.TitleFrame.{TitleFrame}
@@ -24,10 +22,9 @@ use Rattle.vm.specs.Rules.{Banks, banks}
 use Rattle.mobj_runner.specs.declared.RunOutcome.{RunOutcome}
 use Rattle.mobj_runner.specs.declared.RunOutcome.the-variants as R
 use Rattle.mobj_runner.specs.declared.RunEnd.{RunEnd}
-use Rattle.mobj_runner.specs.Rules.{World, world, driveOf, Ready}
+use Rattle.mobj_runner.specs.Rules.{World, world, driveOf}
 use Rattle.nav_driver.specs.declared.Option32.{Option32}
 use Rattle.nav_driver.specs.declared.Option32.the-variants.{None, Some}
-use Rattle.nav_driver.specs.declared.PlayRequest.{PlayRequest}
 use Rattle.nav_driver.specs.declared.DriveOutcome.{DriveOutcome}
 use Rattle.nav_driver.specs.declared.DriveOutcome.the-variants as D
 use Rattle.nav_driver.specs.declared.Follow.{Follow}
@@ -250,19 +247,3 @@ answered (verdict.Refused r) d w = rooms (A.Refused r) (w .regs) (w .frames) (w 
 
 unfoldable pub answerOf : List ℕ → List ℕ → Budgets → Start → Rooms Session → Rooms DriveAnswer
 answerOf x file b start w = answered (verdictFor x file b start w) (begun x file b w start) w
-
--- What a drive rests on: what its object side does, an index file that is read, and title frames that can be counted.
-pub record Able (classes x file places gpr psr frames titles : List ℕ) : Type 0 where
-  pub objects : Ready classes file places gpr psr frames
-  pub index : indexVerdict x ≡ verdict.Fine
-  pub room : length titles ≤ 196610
-
--- What the tests before a drive settle: the first refusal, and, where there is none, all that it rests on but the classes.
-pub record Settled (x file places gpr psr frames titles : List ℕ) (answer expected : Verdict) : Type 0 where
-  pub judged : answer ≡ expected
-  pub index : answer ≡ verdict.Fine → indexVerdict x ≡ verdict.Fine
-  pub fine : answer ≡ verdict.Fine → objectsVerdict file ≡ verdict.Fine
-  pub placed : answer ≡ verdict.Fine → Placed file places
-  pub general : answer ≡ verdict.Fine → length gpr ≡ 4096
-  pub status : answer ≡ verdict.Fine → length psr ≡ 128
-  pub room : answer ≡ verdict.Fine → (length frames ≤ 131073) × (length titles ≤ 196610)

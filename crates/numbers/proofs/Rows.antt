@@ -16,7 +16,8 @@ use Rattle.nav_command.specs.Rules.{compares, branchRows, setRows, branchOf, co
 use Rattle.nav_command.proofs.Laws.{past}
 use Rattle.numbers.specs.declared.Place.{Place}
 use Rattle.numbers.specs.declared.Row.{Row}
-use Rattle.numbers.specs.Rules.{place, placeOf, rowIn, rowOf, Numbered, rowPlace, pair, groupPair, operandPair, flagNumber, commandNumbers}
+use Rattle.numbers.specs.Rules.{pair, groupPair, operandPair, flagNumber, commandNumbers}
+use Rattle.numbers.specs.Pieces.{place, placeOf, rowIn, rowOf, Numbered, rowPlace}
 
 map-at : {A B : Type 0} (f : A → B) (row : List A) (k : ℕ) (d : A) → getD (map f row) k (f d) ≡ f (getD row k d)
 map-at f [] k d = refl

@@ -1,13 +1,11 @@
 -- The numbers of answers, sessions and commands (document 01: "Where an answer is an enum, a definition gives this paper's
 -- number and values for every case, and the promises use that definition"). Assumes nothing.
-use mathlib.Core.Path.{_≡_}
 use mathlib.Core.Bool.{Bool, true, false, cond, not}
 use mathlib.Core.List.{List, [], _∷_, _++_, map}
-use Prim.Native.Nat.{ℕ, _+_, _-_, _%_, _≤_}
-use lib.Dec.{eqb, leb, ltb}
-use lib.ListN.{length, getD}
+use Prim.Native.Nat.{ℕ, _+_, _-_, _%_}
+use lib.Dec.{eqb, leb}
+use lib.ListN.{getD}
 use Rattle.laws.specs.Firsts.{all}
-use Rattle.laws.specs.Table.{listed}
 use Rattle.error.specs.Rules.{numberOf as refusalNumber}
 use Rattle.error.specs.declared.Verdict.{Verdict}
 use Rattle.error.specs.declared.Verdict.the-variants as verdict
@@ -22,7 +20,7 @@ use Rattle.nav_command.specs.declared.Operation.{Operation}
 use Rattle.nav_command.specs.declared.Operation.the-variants.{Branch, Compare, Set, System, Unknown}
 use Rattle.nav_command.specs.declared.RegisterBank.{RegisterBank}
 use Rattle.nav_command.specs.declared.RegisterBank.the-variants.{Gpr, Psr, PsrSecondary}
-use Rattle.nav_command.specs.Rules.{gotos, jumps, plays, compares, sets, systems, branchRows, setRows, groups, numberOf}
+use Rattle.nav_command.specs.Rules.{gotos, jumps, plays, compares, sets, systems, groups, numberOf}
 use Rattle.vm.specs.declared.NavRequest.{NavRequest}
 use Rattle.vm.specs.declared.NavRequest.the-variants as Q
 use Rattle.vm.specs.declared.Step.{Step}
@@ -33,15 +31,12 @@ use Rattle.nav_driver.specs.declared.DriveOutcome.{DriveOutcome}
 use Rattle.nav_driver.specs.declared.DriveOutcome.the-variants as D
 use Rattle.nav_driver.specs.declared.Option32.{Option32}
 use Rattle.nav_driver.specs.declared.Option32.the-variants.{None, Some}
-use Rattle.nav_driver.specs.declared.PlayRequest.{PlayRequest}
 use Rattle.disc_check.specs.declared.DiscCheck.{DiscCheck}
 use Rattle.disc_check.specs.declared.DiscCheck.the-variants as C
 use Rattle.session.specs.declared.Session.{Session}
 use Rattle.session.specs.declared.Budgets.{Budgets}
 use Rattle.session.specs.Rules.{session}
 use Rattle.numbers.specs.declared.Pair.{Pair}
-use Rattle.numbers.specs.declared.Place.{Place}
-use Rattle.numbers.specs.declared.Row.{Row}
 use Rattle.numbers.specs.declared.Request.{Request}
 
 -- A test's answer: 0, or the refusal's number.
@@ -193,32 +188,6 @@ commandNumbers c =
     ∷ operandPair (c .operand2) .kind
     ∷ operandPair (c .operand2) .value
     ∷ []
-
--- An operation's numbers together; and the rows of the sheet, by group and sub-group: their operations, of which there are
--- `count`, numbered from `first` on, and so the numbers of the operation at a place in a row.
-
-abbrev pub place : ℕ → ℕ → ℕ → Place
-place n sub code = record { number = n; sub = sub; code = code }
-
-abbrev pub placeOf : Operation → Place
-placeOf op = place (numberOf op) (unknownOf op .kind) (unknownOf op .value)
-
-abbrev pub rowIn : CommandGroup → ℕ → List Operation
-rowIn G.Branch sub = getD branchRows sub []
-rowIn G.Compare sub = map Compare compares
-rowIn G.Set sub = getD setRows sub []
-rowIn (G.Reserved bits) sub = []
-
-abbrev pub rowOf : ℕ → ℕ → Row
-rowOf count first = record { count = count; first = first }
-
-pub record Numbered (ops : List Operation) (row : Row) : Type 0 where
-  pub long : length ops ≡ row .count
-  pub places : map placeOf ops ≡ listed (λ k. place (row .first + k) 0 0) 0 (row .count)
-  pub fits : row .first + row .count ≤ 48
-
-unfoldable pub rowPlace : ℕ → ℕ → ℕ → ℕ → ℕ → Place
-rowPlace at count first sub code = cond (ltb at count) (place (first + at) 0 0) (place 0 sub code)
 
 -- The command that numbers name, each cut to its field's width.
 

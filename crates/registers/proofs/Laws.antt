@@ -18,7 +18,8 @@ use Rattle.nav_command.specs.declared.RegisterBank.the-variants.{Gpr, Psr, PsrS
 use Rattle.registers.specs.declared.Effect.{Effect}
 use Rattle.registers.specs.declared.Effect.the-variants.{Write, Swap, Nothing}
 use Rattle.registers.specs.declared.Raw.{Raw}
-use Rattle.registers.specs.Rules.{Banks, banks, names, valueOf, writtenStatus, written, effectFor, applied, setOf, appliedIn, setIn, meant}
+use Rattle.registers.specs.Rules.{Banks, banks, names, valueOf, writtenStatus, written, effectFor, applied, setOf}
+use Rattle.registers.specs.Pieces.{appliedIn, setIn, meant}
 
 -- Codes: the last arm of a `match` on a number.
 

@@ -1,6 +1,6 @@
 -- The register banks: what they hold, how operands read and write them, and what a Set command leaves (document 01, "One
 -- command"). Assumes nothing.
-use mathlib.Core.Bool.{Bool, true, false, cond}
+use mathlib.Core.Bool.{Bool, false, cond}
 use mathlib.Core.List.{List}
 use Prim.Native.Nat.{ℕ}
 use lib.Bits.{bitAnd, bitOr, bitXor}
@@ -12,18 +12,15 @@ use Rattle.error.specs.declared.Refusal.the-variants.{BadBuffer}
 use Rattle.error.specs.declared.Verdict.{Verdict}
 use Rattle.error.specs.declared.Verdict.the-variants as Fit
 use Rattle.register_model.specs.Rules.{writable}
-use Rattle.nav_command.specs.Rules.{operandOf}
 use Rattle.nav_command.specs.declared.SetOp.{SetOp}
 use Rattle.nav_command.specs.declared.SetOp.the-variants as S
 use Rattle.nav_command.specs.declared.Operation.{Operation}
 use Rattle.nav_command.specs.declared.Operation.the-variants as O
-use Rattle.nav_command.specs.declared.RegisterBank.{RegisterBank}
 use Rattle.nav_command.specs.declared.RegisterBank.the-variants.{Gpr, Psr, PsrSecondary}
 use Rattle.nav_command.specs.declared.Operand.{Operand}
 use Rattle.nav_command.specs.declared.Operand.the-variants.{Absent, Immediate, Register}
 use Rattle.registers.specs.declared.Effect.{Effect}
 use Rattle.registers.specs.declared.Effect.the-variants.{Write, Swap, Nothing}
-use Rattle.registers.specs.declared.Raw.{Raw}
 use Rattle.registers.specs.declared.Read.{Read}
 use Rattle.registers.specs.declared.Read.the-variants.{Value, NoRegister, Refused}
 
@@ -105,13 +102,6 @@ applied Nothing a b x y s = s
 unfoldable pub setOf : Operation → Operand → Operand → ℕ → ℕ → Banks → Banks
 setOf op a b x y s = cond (names a) (applied (effectFor op x y) a b x y s) s
 
--- an effect and a Set with the values that their operands have
-unfoldable pub appliedIn : Operation → Operand → Operand → Banks → Banks
-appliedIn op a b s = applied (effectFor op (valueOf a s) (valueOf b s)) a b (valueOf a s) (valueOf b s) s
-
-abbrev pub setIn : Operation → Operand → Operand → Banks → Banks
-setIn op a b s = setOf op a b (valueOf a s) (valueOf b s) s
-
 -- Refusal 6: a bank that has not its number of registers.
 
 abbrev pub refuses : Refusal → Bool → Verdict
@@ -136,11 +126,3 @@ putBy (Fit.Refused r) old new = old
 
 unfoldable pub putOf : ℕ → List ℕ → ℕ → ℕ → List ℕ
 putOf size bank i v = putBy (bankOf size bank) bank (set bank i v)
-
--- What the code's record of an operand means.
-
-abbrev pub raw : Bool → Bool → ℕ → Raw
-raw there immediate word = record { there = there; immediate = immediate; word = word }
-
-abbrev pub meant : Raw → Operand
-meant a = operandOf (a .there) (a .immediate) (a .word)

@@ -9,7 +9,8 @@ ghost use Rattle.nav_command.specs.Rules as nav;
 ghost use Rattle.nav_command.specs.declared.Operand.the-variants.{Register};
 ghost use Rattle.nav_command.specs.declared.RegisterBank.the-variants.{Gpr, Psr};
 ghost use Rattle.registers.specs.Laws.{Full, OneAnswer};
-ghost use Rattle.registers.specs.Rules.{banks, freshGeneral, freshStatus, valueOf, writtenStatus, written, effectFor, appliedIn, setIn, refuses, bankOf, readOf, putOf, meant};
+ghost use Rattle.registers.specs.Rules.{banks, freshGeneral, freshStatus, valueOf, writtenStatus, written, effectFor, refuses, bankOf, readOf, putOf};
+ghost use Rattle.registers.specs.Pieces.{appliedIn, setIn, meant};
 use error::Refusal;
 use error::Verdict;
 

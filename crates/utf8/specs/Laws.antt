@@ -10,7 +10,8 @@ use lib.ListN.{length, take, drop, getD}
 use borrow.Author.Tests.{le-leb, ltb-true}
 use Rattle.laws.specs.Cases.{both}
 use Rattle.laws.specs.Part.{part-cons}
-use Rattle.utf8.specs.Rules.{fresh, leadOf, stepOf, isWhole, allAscii, scanOf, isUtf8}
+use Rattle.utf8.specs.Rules.{fresh, leadOf, stepOf, isWhole, scanOf, isUtf8}
+use Rattle.utf8.specs.Pieces.{allAscii}
 use Rattle.utf8.specs.declared.Scan.{Scan}
 
 bytes5 : (s : List ℕ) (at : ℕ) → at + 5 ≤ length s → take 5 (drop at s) ≡ getD s at 0 ∷ getD s (at + 1) 0 ∷ getD s (at + 2) 0 ∷ getD s (at + 3) 0 ∷ getD s (at + 4) 0 ∷ []

@@ -2,7 +2,7 @@
 use mathlib.Core.Bool.{Bool, false, cond, _&&_}
 use mathlib.Core.List.{List, [], _∷_}
 use Prim.Native.Nat.{ℕ, _-_}
-use lib.Dec.{leb, ltb, eqb}
+use lib.Dec.{leb, eqb}
 use Rattle.utf8.specs.declared.Scan.{Scan}
 use Rattle.utf8.specs.declared.Scan.the-variants.{Want, Bad}
 
@@ -51,7 +51,3 @@ scanOf u (b ∷ s) = scanOf (stepOf u b) s
 
 unfoldable pub isUtf8 : List ℕ → Bool
 isUtf8 s = scanOf fresh s
-
--- Bytes below 128 are characters by themselves.
-abbrev pub allAscii : ℕ → ℕ → ℕ → ℕ → ℕ → Bool
-allAscii a b c d e = (((ltb a 128 && ltb b 128) && ltb c 128) && ltb d 128) && ltb e 128

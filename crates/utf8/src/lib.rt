@@ -2,7 +2,8 @@
 ghost use mathlib.Core.Path.{_≡_};
 ghost use Prim.Native.Nat.{_+_, _≤_};
 ghost use lib.ListN.{length, take, drop};
-ghost use Rattle.utf8.specs.Rules.{between, leadOf, lead3, lead4, stepOf, isWhole, allAscii, isUtf8};
+ghost use Rattle.utf8.specs.Rules.{between, leadOf, lead3, lead4, stepOf, isWhole, isUtf8};
+ghost use Rattle.utf8.specs.Pieces.{allAscii};
 
 // What must follow: so many bytes more of a character, the next of them from low to high.
 enum Scan {

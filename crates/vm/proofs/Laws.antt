@@ -20,7 +20,8 @@ use Rattle.vm.specs.declared.End.the-variants.{Spent}
 use Rattle.vm.specs.declared.Next.{Next}
 use Rattle.vm.specs.declared.Next.the-variants.{Go, Stop}
 use Rattle.registers.specs.declared.Raw.{Raw}
-use Rattle.registers.specs.Rules.{effectFor, setIn, meant}
+use Rattle.registers.specs.Rules.{effectFor}
+use Rattle.registers.specs.Pieces.{setIn, meant}
 use Rattle.vm.specs.declared.Ran.{Ran}
 use Rattle.vm.specs.declared.Step.{Step}
 use Rattle.vm.specs.declared.Step.the-variants.{Continue, Skipped, Halted, Branch}
@@ -29,7 +30,8 @@ use Rattle.vm.specs.declared.Answer.the-variants.{Done, Refused}
 use Rattle.error.specs.declared.Refusal.{Refusal}
 use Rattle.error.specs.declared.Verdict.{Verdict}
 use Rattle.error.specs.declared.Verdict.the-variants as Fit
-use Rattle.vm.specs.Rules.{Banks, After, with, stepped, on, halted, execBranch, holdsFor, compareOf, systemOf, execSet, acted, execOf, fetched, stepOf, nextOf, ran, goesOn, runFrom, runOf, plain, plainly, answered, rawFirst, rawSecond, firstValue, secondValue, asBranch, asCompare, asSet, single}
+use Rattle.vm.specs.Rules.{Banks, After, with, stepped, on, halted, execBranch, holdsFor, compareOf, systemOf, execSet, acted, execOf, fetched, stepOf, nextOf, ran, goesOn, runFrom, runOf, plain, plainly, answered}
+use Rattle.vm.specs.Pieces.{rawFirst, rawSecond, firstValue, secondValue, asBranch, asCompare, asSet, single}
 
 -- branch options past the last of a row, and rows past the last
 module _ (option : ℕ) where

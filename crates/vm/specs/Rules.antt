@@ -4,14 +4,12 @@ use mathlib.Core.List.{List, [], _∷_, map}
 use Prim.Native.Nat.{ℕ, zero, suc, _+_, _*_, _/_, _%_}
 use lib.Bits.{bitAnd}
 use lib.Dec.{eqb, leb, ltb}
-use lib.ListN.{length, getD, set}
-use Rattle.nav_command.specs.Rules.{byteAt, wordAt, countOf, subOf, immediate1, immediate2, commandOf}
-use Rattle.nav_command.specs.Rules as nav
+use lib.ListN.{length, getD}
+use Rattle.nav_command.specs.Rules.{commandOf}
 use Rattle.error.specs.Rules.{firstOf}
 use Rattle.error.specs.declared.Refusal.the-variants.{BadBuffer, BadBudget}
-use Rattle.registers.specs.declared.Raw.{Raw}
 pub use Rattle.registers.specs.Rules.{Banks, banks, valueOf, setOf}
-use Rattle.registers.specs.Rules.{refuses, bankOf, raw, meant}
+use Rattle.registers.specs.Rules.{refuses, bankOf}
 use Rattle.error.specs.declared.Verdict.{Verdict}
 use Rattle.error.specs.declared.Verdict.the-variants as Fit
 use Rattle.nav_command.specs.declared.BranchOp.{BranchOp}
@@ -196,34 +194,3 @@ plainly t = with (t .regs) (stepped (plain (t .answer .end)) (t .answer .pc))
 
 unfoldable pub runAnswer : List ℕ → ℕ → ℕ → Banks → After Answer
 runAnswer cs pc budget s = answered (verdictOf cs budget s) s (plainly (runOf cs budget 0 pc s))
-
--- What the code's pieces mean: an operand's flags and word, a command taken for one of a group, and a run of one step.
-
-abbrev pub rawFirst : List ℕ → Raw
-rawFirst bytes = raw (leb 1 (countOf bytes)) (immediate1 bytes) (wordAt bytes 4)
-
-abbrev pub rawSecond : List ℕ → Raw
-rawSecond bytes = raw (leb 2 (countOf bytes)) (immediate2 bytes) (wordAt bytes 8)
-
-abbrev pub firstValue : List ℕ → Banks → ℕ
-firstValue bytes s = valueOf (meant (rawFirst bytes)) s
-
-abbrev pub secondValue : List ℕ → Banks → ℕ
-secondValue bytes s = valueOf (meant (rawSecond bytes)) s
-
-unfoldable pub asBranch : List ℕ → ℕ → ℕ → Banks → Stepped
-asBranch bytes pc count s = execBranch (nav.branchOf (subOf bytes) (byteAt bytes 1 % 16)) (firstValue bytes s) (secondValue bytes s) pc count
-
-unfoldable pub asCompare : List ℕ → ℕ → ℕ → Banks → Stepped
-asCompare bytes pc count s = compareOf (holdsFor (nav.compareOf (subOf bytes) (byteAt bytes 2)) (firstValue bytes s) (secondValue bytes s)) pc count
-
-unfoldable pub asSet : List ℕ → ℕ → Banks → After Stepped
-asSet bytes pc s =
-    execSet (subOf bytes) (nav.setOf (subOf bytes) (byteAt bytes 3)) (meant (rawFirst bytes)) (meant (rawSecond bytes))
-    (firstValue bytes s) (secondValue bytes s) pc s
-
-abbrev pub single : End → Bool → Step
-single E.Halted skipped = Halted
-single E.Spent false = Continue
-single E.Spent true = Skipped
-single (E.Branch q) skipped = Branch q

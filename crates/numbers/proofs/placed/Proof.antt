@@ -1,6 +1,6 @@
 use borrow.Author.Needs.{needs}
 use borrow.Author.Tests.{lt-ltb, le-ltb}
-use Rattle.numbers.specs.Rules.{rowPlace}
+use Rattle.numbers.specs.Pieces.{rowPlace}
 use Rattle.numbers.proofs.placed.Statement.{statement}
 use Rattle.numbers.proofs.placed.Tie as tie
 
