@@ -147,6 +147,13 @@ pub fn byte_at(s: &[u8], at: usize) -> u8
     if at < s.len() { s[at] } else { 0 }
 }
 
+// The number at a place of a list of them, and 0 past the end.
+pub fn number_at(room: &[u32], at: usize) -> u32
+    ensures { λ r. ⌜ r ≡ getD (now (room .entry)) at 0 ⌝ }
+{
+    if at < room.len() { room[at] } else { 0 }
+}
+
 // The big-endian number of the two bytes at a place; bytes past the end count as 0.
 pub fn half_at(s: &[u8], at: usize) -> u16
     ensures { λ r. ⌜ r ≡ be2 (now (s .entry)) at ⌝ }

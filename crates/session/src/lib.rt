@@ -1,8 +1,9 @@
 // What a drive is handed and hands back: the session, its budgets and its lent frames; no module of the Rust has it alone.
 ghost use mathlib.Core.Path.{_≡_};
 ghost use mathlib.Core.Bool.{Bool};
-ghost use lib.ListN.{getD, set};
+ghost use lib.ListN.{set};
 ghost use Rattle.session.specs.Rules.{fresh, defaults, objectFrame, pushedObject, titleFrame, pushedTitle, buffersVerdict, budgetsVerdict, entryVerdict, objectsLive, titlesLive, liveVerdict, sessionVerdict};
+use common::number_at;
 use error::Refusal;
 use error::Verdict;
 
@@ -69,13 +70,6 @@ impl Budgets {
         let over = (Self::STEPS < steps) | (Self::OBJECTS < objects) | (Self::TITLES < titles);
         Verdict::refused_if(over, Refusal::BadBudget)
     }
-}
-
-// The number at a place of a frame room, or 0 past its end.
-pub fn number_at(room: &[u32], at: usize) -> u32
-    ensures { λ r. ⌜ r ≡ getD (now (room .entry)) at 0 ⌝ }
-{
-    if at < room.len() { room[at] } else { 0 }
 }
 
 // Stores a number in a frame room; past its end nothing changes.

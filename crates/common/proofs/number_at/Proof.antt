@@ -2,8 +2,8 @@ use mathlib.Core.Path.{sym}
 use lib.ListN.{List·getD-eq-default}
 use borrow.Author.Needs.{needs}
 use denote.Ref.{now}
-use Rattle.session.proofs.number_at.Statement.{statement}
-use Rattle.session.proofs.number_at.Tie as tie
+use Rattle.common.proofs.number_at.Statement.{statement}
+use Rattle.common.proofs.number_at.Tie as tie
 
 returns-2 : tie.Need-returns-2
 returns-2 c = sym (List·getD-eq-default (now (c .before .args .room)) 0 (c .if1 .left))
