@@ -27,7 +27,8 @@ use Rattle.vm.specs.Rules.{Banks, banks, fetched}
 use Rattle.mobj_runner.specs.declared.RunAnswer.{RunAnswer}
 use Rattle.mobj_runner.specs.declared.Start.{Start as RunnerStart}
 use Rattle.mobj_runner.specs.Rules.{World, world, answerOf as runnerAnswer}
-use Rattle.numbers.specs.Rules.{commandNumbers, sessionOf, budgetsOf}
+use Rattle.nav_numbers.specs.Rules.{commandNumbers}
+use Rattle.numbers.specs.Rules.{sessionOf, budgetsOf}
 use Rattle.lent.specs.Rules.{Ended, ended, lengthsFit}
 use Rattle.mescjadro.specs.Rules.{handed, size, measured, decodeCall, text, textBy, listCommandCall, banked, freshBanks, ranBy, runnerBy, runnerCall}
 

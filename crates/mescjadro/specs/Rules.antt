@@ -1,5 +1,5 @@
--- What each call of the C interface but the driver's hands back and what every lent array holds afterwards, in the numbers of the crate
--- `numbers` and the rules of the layers below. A refusal hands back its number and leaves all as it was. Assumes nothing.
+-- What each call of the C interface but the driver's hands back and what every lent array holds afterwards, in the numbers of the crates
+-- `nav_numbers` and `numbers` and the rules of the layers below. A refusal hands back its number and leaves all as it was. Assumes nothing.
 use mathlib.Core.Bool.{cond, _&&_}
 use mathlib.Core.List.{List, [], _∷_}
 use Prim.Native.Nat.{ℕ, _+_}
@@ -8,7 +8,8 @@ use lib.ListN.{length, getD, replicate}
 use Rattle.error.specs.Rules.{numberOf}
 use Rattle.error.specs.declared.Refusal.{Refusal}
 use Rattle.error.specs.declared.Refusal.the-variants.{BadBuffer, NotEncodable}
-use Rattle.numbers.specs.Rules.{verdictNumber, stepNumbers, runNumbers, checkNumbers, sessionNumbers, sessionOf, budgetNumbers, budgetsOf, commandNumbers, commandNamed, isCommand}
+use Rattle.nav_numbers.specs.Rules.{commandNumbers, commandNamed, isCommand}
+use Rattle.numbers.specs.Rules.{verdictNumber, stepNumbers, runNumbers, checkNumbers, sessionNumbers, sessionOf, budgetNumbers, budgetsOf}
 use Rattle.nav_command.specs.Rules.{commandOf}
 use Rattle.nav_encode.specs.Rules.{Encoding, encodeOf}
 use Rattle.nav_list.specs.Rules.{Listing, lineOf, listOf}

@@ -40,7 +40,7 @@ pub extern "C" fn mescjadro_decode(command: &[u8], result: &mut [u32]) -> u32
         return lent::refused(Refusal::BadBuffer);
     }
     let bytes = twelve(command);
-    let found = numbers::numbers_of(&bytes);
+    let found = nav_numbers::numbers_of(&bytes);
     lent::put(result, &found);
     0
 }
@@ -53,8 +53,8 @@ pub extern "C" fn mescjadro_encode(command: &[u32], out: &mut [u8]) -> u32
     if command.len() != 13 {
         return lent::refused(Refusal::BadBuffer);
     }
-    if numbers::is_command(command) {
-        let found = nav_encode::encode(numbers::command_named(command), out);
+    if nav_numbers::is_command(command) {
+        let found = nav_encode::encode(nav_numbers::command_named(command), out);
         return numbers::verdict_number(found);
     }
     lent::refused(Refusal::NotEncodable)

@@ -6,6 +6,7 @@ use lib.ListN.{getD}
 use Rattle.nav_command.specs.declared.Operation.{Operation}
 use Rattle.nav_command.specs.declared.Operation.the-variants.{Branch, Compare, Set, System, Unknown}
 use Rattle.nav_command.specs.declared.SystemOp.the-variants as Y
+use Rattle.nav_numbers.specs.Rules.{sheetNamed}
 use Rattle.vm.specs.declared.NavRequest.{NavRequest}
 use Rattle.vm.specs.declared.NavRequest.the-variants as Q
 use Rattle.mobj_runner.specs.declared.RunOutcome.{RunOutcome}
@@ -16,7 +17,7 @@ use Rattle.nav_driver.specs.declared.Option32.{Option32}
 use Rattle.nav_driver.specs.declared.Option32.the-variants.{None, Some}
 use Rattle.nav_driver.specs.declared.PlayRequest.{PlayRequest}
 use Rattle.numbers.specs.declared.Request.{Request}
-use Rattle.numbers.specs.Rules.{request, requestOf, optionOf, sheetNamed, runNumbers, driveNumbers}
+use Rattle.numbers.specs.Rules.{request, requestOf, optionOf, runNumbers, driveNumbers}
 use Rattle.numbers.specs.Apart.{Made, MadeDrive, MadeRun, ToldApart}
 
 -- ---- requests
