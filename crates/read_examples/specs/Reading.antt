@@ -1,0 +1,56 @@
+-- Examples of big-endian reads at a position, and of the header (document 01, module 2 and "Numbers and bounds"). Assumes nothing.
+use mathlib.Core.Path.{_≡_, refl}
+use mathlib.Core.List.{List, [], _∷_}
+use Prim.Native.Nat.{ℕ, _+_, _-_}
+use lib.ListN.{replicate}
+use Rattle.error.specs.declared.Refusal.the-variants.{BadHeader, BadBody}
+use Rattle.error.specs.declared.Verdict.the-variants as verdict
+use Rattle.common.specs.declared.Moved.the-variants as moved
+use Rattle.common.specs.declared.Byte.the-variants as byte
+use Rattle.common.specs.declared.Half.the-variants as half
+use Rattle.common.specs.declared.Word.the-variants as word
+use Rattle.common.specs.Rules.{be2, be4, reader, seekOf, readU8, readU16, readU32, headerOf}
+
+-- six bytes
+abbrev six : List ℕ
+six = 1 ∷ 2 ∷ 3 ∷ 4 ∷ 5 ∷ 6 ∷ []
+
+-- MOBJ, as a number and at the front of so many bytes
+abbrev mobj : ℕ
+mobj = 0x4D4F_424A
+
+abbrev fileOf : ℕ → List ℕ
+fileOf n = 0x4D ∷ 0x4F ∷ 0x42 ∷ 0x4A ∷ replicate (n - 4) 0
+
+-- A new reader stands at the first byte.
+new-reader : readU8 (fileOf 44) (reader 0 .pos) ≡ byte.Value 0x4D (reader 1)
+new-reader = refl
+
+-- A seek past the end is refused.
+seek-past-the-end : seekOf six 7 ≡ moved.Refused BadBody
+seek-past-the-end = refl
+
+-- A skip goes on from the position.
+skip-of-3-from-2 : seekOf six (reader 2 .pos + 3) ≡ moved.To (reader 5)
+skip-of-3-from-2 = refl
+
+-- A read that passes the end is refused.
+byte-past-the-end : readU8 six 6 ≡ byte.Refused BadBody
+byte-past-the-end = refl
+
+word-cut-by-the-end : readU32 six 3 ≡ word.Refused BadBody
+word-cut-by-the-end = refl
+
+-- Reads are big-endian, and hand the next position back.
+half-at-1 : readU16 six 1 ≡ half.Value 0x0203 (reader 3)
+unfolding be2
+half-at-1 = refl
+
+word-at-1 : readU32 six 1 ≡ word.Value 0x0203_0405 (reader 5)
+unfolding be4
+word-at-1 = refl
+
+-- Under 40 bytes is a bad header.
+lengths-39-and-40 : headerOf mobj (fileOf 39) ∷ headerOf mobj (fileOf 40) ∷ [] ≡ verdict.Refused BadHeader ∷ verdict.Fine ∷ []
+unfolding be4 headerOf
+lengths-39-and-40 = refl
