@@ -1,0 +1,69 @@
+-- Examples of decoding and encoding a command (document 01, module 4). Assumes nothing.
+use mathlib.Core.Path.{_≡_, refl}
+use mathlib.Core.Bool.{true, false}
+use mathlib.Core.List.{List, [], _∷_, _++_}
+use Prim.Native.Nat.{ℕ}
+use lib.ListN.{replicate}
+use Rattle.laws.specs.Over.{over}
+use Rattle.error.specs.declared.Refusal.the-variants as refusal
+use Rattle.error.specs.declared.Verdict.the-variants.{Fine, Refused}
+use Rattle.nav_command.specs.declared.BranchOp.the-variants as B
+use Rattle.nav_command.specs.declared.CompareOp.the-variants as C
+use Rattle.nav_command.specs.declared.SetOp.the-variants as S
+use Rattle.nav_command.specs.declared.Operation.the-variants as O
+use Rattle.nav_command.specs.declared.CommandGroup.the-variants as G
+use Rattle.nav_command.specs.declared.RegisterBank.the-variants.{Gpr, PsrSecondary}
+use Rattle.nav_command.specs.declared.Operand.the-variants.{Immediate, Register}
+use Rattle.nav_command.specs.declared.DecodedCommand.{DecodedCommand}
+use Rattle.nav_command.specs.Rules.{branchOf, compareOf, setOf, operandOf, commandOf}
+use Rattle.nav_encode.specs.Rules.{wordBytes, bytesOf, same, encodable, encoding, encodeOf}
+
+-- the bytes of three words
+abbrev pub command : ℕ → ℕ → ℕ → List ℕ
+command w x y = wordBytes w ++ (wordBytes x ++ wordBytes y)
+
+-- P2, and what it decodes to
+abbrev pub p2 : List ℕ
+p2 = command 0x5040_0001 5 0x10
+
+abbrev move : DecodedCommand
+move =
+    record {
+      «operand_count» = 2;
+      group = G.Set;
+      «sub_group» = 0;
+      «imm_op1» = false;
+      «imm_op2» = true;
+      operation = O.Set S.Move;
+      operand1 = Register Gpr 5;
+      operand2 = Immediate 0x10;
+    }
+
+-- room lent to the encoder
+abbrev room : ℕ → List ℕ
+room n = replicate n 0xFF
+
+-- The branch option is bits 19..16: JumpTitle 65,537.
+jump-title : commandOf (command 0x2181_0000 0x1_0001 0) .operation ≡ O.Branch B.JumpTitle
+unfolding branchOf commandOf
+jump-title = refl
+
+-- The compare code is bits 15..8: P11.
+compare-code : commandOf (command 0x4840_0200 1 7) .operation ≡ O.Compare C.Eq
+unfolding compareOf commandOf
+compare-code = refl
+
+-- A register's index is the low 12 bits.
+index-4087 : commandOf (command 0x5000_0001 5 0xC000_0FF7) .operand2 ≡ Register PsrSecondary 4087
+unfolding operandOf commandOf
+index-4087 = refl
+
+-- The encoder writes the command whose ignored bits are zero, and no byte past it.
+encoded : encodeOf move (room 13) ≡ encoding Fine (p2 ++ (0xFF ∷ []))
+unfolding over setOf operandOf commandOf bytesOf same encodable encodeOf
+encoded = refl
+
+-- No room: eleven bytes stay as they are.
+eleven-bytes : encodeOf move (room 11) ≡ encoding (Refused refusal.NoRoom) (room 11)
+unfolding setOf operandOf commandOf bytesOf same encodable encodeOf
+eleven-bytes = refl

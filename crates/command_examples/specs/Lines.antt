@@ -1,0 +1,39 @@
+-- Examples of a command as a line of text (document 01, the listing program; the Rust's `disassemble`). Assumes nothing.
+use mathlib.Core.Path.{_≡_, refl}
+use mathlib.Core.List.{List, _++_}
+use Prim.Native.Nat.{ℕ}
+use Rattle.error.specs.declared.Refusal.the-variants.{NoRoom}
+use Rattle.text.specs.Rules.{bytes, numeral}
+use Rattle.register_model.specs.Rules.{classOf}
+use Rattle.register_model.specs.Names.{nameOf}
+use Rattle.nav_command.specs.declared.BranchOp.the-variants.{CallTitle}
+use Rattle.nav_command.specs.declared.Operation.the-variants.{Branch}
+use Rattle.nav_command.specs.Rules.{branchOf, setOf, operandOf, numberOf, commandOf}
+use Rattle.nav_names.specs.Rules.{mnemonic, nameText}
+use Rattle.nav_list.specs.declared.Listed.the-variants as listed
+use Rattle.nav_list.specs.Rules.{unknownText, immediateText, generalText, statusText, lineOf, lineAt, listing, listOf}
+use Rattle.command_examples.specs.Commands.{command, p2}
+
+-- room for twelve bytes of text
+abbrev room : List ℕ
+room = bytes "............"
+
+-- An operation is listed by its name.
+call-title : mnemonic (numberOf (Branch CallTitle)) ≡ bytes "CallTitle"
+unfolding mnemonic
+call-title = refl
+
+-- An unknown code is listed with its sub-group.
+unknown-code : lineAt (command 0x030A_0000 0 0) 0 ≡ bytes "Unknown(sub_grp=3,sel=0xA)"
+unfolding numeral branchOf operandOf commandOf unknownText lineOf lineAt
+unknown-code = refl
+
+-- P3, behind P2.
+protected-register : lineAt (p2 ++ command 0x5040_0001 0x8000_0008 5) 12 ≡ bytes "Move PSR8(PresentationTime), 0x5"
+unfolding numeral classOf nameOf setOf operandOf commandOf mnemonic nameText immediateText statusText lineOf lineAt
+protected-register = refl
+
+-- No room: the 13 bytes of P2's line, in twelve.
+twelve-bytes : listOf room 0 (lineAt p2 0) ≡ listing (listed.Refused NoRoom) room
+unfolding numeral setOf operandOf commandOf mnemonic immediateText generalText lineOf lineAt listOf
+twelve-bytes = refl
