@@ -1,4 +1,4 @@
--- Examples of big-endian reads at a position, and of the header (document 01, module 2 and "Numbers and bounds"). Assumes nothing.
+-- Examples of big-endian reads and of the header (document 01, module 2 and "Numbers and bounds"). Assumes nothing.
 use mathlib.Core.Path.{_≡_, refl}
 use mathlib.Core.List.{List, [], _∷_}
 use Prim.Native.Nat.{ℕ, _+_, _-_}
