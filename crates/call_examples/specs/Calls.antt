@@ -1,0 +1,53 @@
+-- Examples of what the calls for C hand out (include/mescjadro.h). Assumes nothing.
+use mathlib.Core.Path.{_≡_, refl}
+use mathlib.Core.List.{List, [], _∷_}
+use Prim.Native.Nat.{ℕ}
+use lib.ListN.{replicate}
+use Rattle.laws.specs.Firsts.{sum, blocks}
+use Rattle.common.specs.Rules.{be2, be4, bytes2, bytes4, headerOf}
+use Rattle.movie_object.specs.Rules.{countOf, next, place, bodyOf, verdictOf, headAt, objectOf}
+use Rattle.movie_object_write.specs.Rules.{cmdsAt, objectBytes, object, headBytes, sizeOf, fileOf}
+use Rattle.nav_command.specs.Rules.{branchOf, operandOf, commandOf}
+use Rattle.nav_numbers.specs.Rules.{commandNumbers}
+use Rattle.registers.specs.Rules.{freshStatus, bankOf, readOf}
+use Rattle.nav_driver.specs.declared.DriveOutcome.the-variants as D
+use Rattle.numbers.specs.Rules.{driveNumbers}
+use Rattle.mescjadro.specs.Rules.{handed, decodeCall, objectCall, readCall}
+
+-- what the examples compute with
+opened : Unit {0}
+unfolding sum blocks be2 be4 bytes2 bytes4 headerOf countOf next place bodyOf verdictOf headAt objectOf cmdsAt objectBytes object headBytes sizeOf fileOf branchOf operandOf commandOf commandNumbers bankOf readOf decodeCall objectCall readCall
+opened = tt
+
+-- a file of one object with a Nop, which asks to be resumed
+abbrev file : List ℕ
+file = fileOf 0x3032_3030 (1 ∷ 0 ∷ 0 ∷ []) (1 ∷ []) (replicate 12 0)
+
+-- Its flags, its number of commands, and where they start: four bytes after the head at 78.
+object-0 : objectCall file 0 (replicate 5 9) ≡ handed 0 (1 ∷ 0 ∷ 0 ∷ 1 ∷ 82 ∷ [])
+unfolding opened
+object-0 = refl
+
+-- 10 not an entry: the array stays as it was.
+object-1 : objectCall file 1 (replicate 5 9) ≡ handed 10 (replicate 5 9)
+unfolding opened
+object-1 = refl
+
+-- There is no status register 128, which is no refusal.
+register-128 : readCall 128 freshStatus 128 (9 ∷ 9 ∷ []) ≡ handed 0 (0 ∷ 0 ∷ [])
+unfolding opened
+register-128 = refl
+
+-- Nop, without operands, is the first of the sheet.
+nop : decodeCall (replicate 12 0) (replicate 13 9) ≡ handed 0 (0 ∷ 0 ∷ 0 ∷ 0 ∷ 0 ∷ 0 ∷ 1 ∷ 0 ∷ 0 ∷ 0 ∷ 0 ∷ 0 ∷ 0 ∷ [])
+unfolding opened
+nop = refl
+
+-- Twelve numbers are no room for a command's thirteen.
+twelve-numbers : decodeCall (replicate 12 0) (replicate 12 9) ≡ handed 6 (replicate 12 9)
+unfolding opened
+twelve-numbers = refl
+
+-- Bad title 7.
+bad-title : driveNumbers (D.BadTitle 7) ≡ 3 ∷ 7 ∷ 0 ∷ 0 ∷ 0 ∷ 0 ∷ []
+bad-title = refl
