@@ -1,0 +1,92 @@
+-- Examples of a MovieObject.bdmv, read and written (document 01, module 5). Assumes nothing.
+use mathlib.Core.Path.{_≡_, refl}
+use mathlib.Core.List.{List, [], _∷_, _++_}
+use Prim.Native.Nat.{ℕ}
+use lib.ListN.{set, take, replicate}
+use Rattle.laws.specs.Firsts.{sum, all, allBelow, blocks}
+use Rattle.laws.specs.Over.{over}
+use Rattle.common.specs.Rules.{be2, be4, bytes2, bytes4, headerOf}
+use Rattle.error.specs.declared.Refusal.the-variants.{BadHeader, BadBody, NoRoom, NotEncodable, NotAnEntry}
+use Rattle.error.specs.declared.Verdict.the-variants.{Fine, Refused}
+use Rattle.movie_object.specs.declared.Object.the-variants as object
+use Rattle.movie_object.specs.declared.Parsed.the-variants as parsed
+use Rattle.movie_object.specs.Rules.{countOf, next, place, bodyOf, verdictOf, commandCount, commandsOf, parseOf, headAt, objectOf, partOf}
+use Rattle.movie_object_write.specs.declared.Written.the-variants as written
+use Rattle.movie_object_write.specs.Rules.{cmdsAt, objectBytes, object as objectWritten, headBytes, sizeOf, fileOf, encodable, writeVerdict, left, writeOf}
+
+-- what the examples compute with
+opened : Unit {0}
+unfolding sum all allBelow blocks over be2 be4 bytes2 bytes4 headerOf countOf next place bodyOf verdictOf commandCount commandsOf parseOf headAt objectOf partOf cmdsAt objectBytes objectWritten headBytes sizeOf fileOf encodable writeVerdict writeOf
+opened = tt
+
+-- the command `Move r5, 0x10`, and the file of document 01 that has it alone: MOBJ, 0200, and 50 for the length
+abbrev pub move : List ℕ
+move = 0x50 ∷ 0x40 ∷ 0 ∷ 1 ∷ 0 ∷ 0 ∷ 0 ∷ 5 ∷ 0 ∷ 0 ∷ 0 ∷ 0x10 ∷ []
+
+abbrev pub one : List ℕ
+one = bytes4 0x4D4F424A ++ bytes4 0x30323030 ++ replicate 32 0 ++ bytes4 50 ++ replicate 32 0 ++ bytes2 1 ++ bytes4 1 ++ move
+
+-- 78 bytes: no object, and a length of 0
+abbrev none : List ℕ
+none = bytes4 0x4D4F424A ++ replicate 74 0
+
+-- File lengths 39 and 40, 77 and 78.
+pub length-39 : verdictOf (take 39 none) ≡ Refused BadHeader
+unfolding opened
+length-39 = refl
+
+pub length-40 : verdictOf (take 40 none) ≡ Refused BadBody
+unfolding opened
+length-40 = refl
+
+pub length-77 : verdictOf (take 77 none) ≡ Refused BadBody
+unfolding opened
+length-77 = refl
+
+pub length-78 : verdictOf none ≡ Fine
+unfolding opened
+length-78 = refl
+
+-- Objects may run past the stated length.
+pub past-the-stated-length : verdictOf (set one 43 0) ≡ Fine
+unfolding opened
+past-the-stated-length = refl
+
+pub version-and-count : parseOf one ≡ parsed.Read (record { version = 0x30323030; count = 1 })
+unfolding opened
+version-and-count = refl
+
+-- The flags are the top three bits of an object's first byte.
+pub flags-of-an-object : objectOf (set one 78 0xA0) 0
+    ≡ object.Found (record { «resume_intention_flag» = 1; «menu_call_mask» = 0; «title_search_mask» = 1; commands = 1 })
+unfolding opened
+flags-of-an-object = refl
+
+pub no-such-object : objectOf one 1 ≡ object.Refused NotAnEntry
+unfolding opened
+no-such-object = refl
+
+-- Two flag bytes, a command count, and twelve bytes per command.
+pub commands-of-an-object : partOf one 0 ≡ move
+unfolding opened
+commands-of-an-object = refl
+
+-- Writing gives those bytes.
+pub written-file : fileOf 0x30323030 (0 ∷ 0 ∷ 0 ∷ []) (1 ∷ []) move ≡ one
+unfolding opened
+written-file = refl
+
+-- A record field doesn't fit its bits.
+pub flag-of-2 : writeVerdict (2 ∷ 0 ∷ 0 ∷ []) (1 ∷ []) move 94 ≡ Refused NotEncodable
+unfolding opened
+flag-of-2 = refl
+
+-- Output beyond the written length stays.
+pub rest-stays : writeOf 0x30323030 (0 ∷ 0 ∷ 0 ∷ []) (1 ∷ []) move (replicate 96 7) ≡ left (one ++ (7 ∷ 7 ∷ [])) (written.Bytes 94)
+unfolding opened
+rest-stays = refl
+
+-- Output longer than the lent buffer: nothing is written.
+pub no-room : writeOf 0x30323030 (0 ∷ 0 ∷ 0 ∷ []) (1 ∷ []) move (replicate 93 7) ≡ left (replicate 93 7) (written.Refused NoRoom)
+unfolding opened
+no-room = refl
