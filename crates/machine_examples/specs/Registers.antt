@@ -7,6 +7,11 @@ use Rattle.error.specs.declared.Refusal.the-variants.{BadBuffer}
 use Rattle.registers.specs.declared.Read.the-variants.{Value, NoRegister, Refused}
 use Rattle.registers.specs.Rules.{freshGeneral, freshStatus, bankOf, readOf, putOf}
 
+-- what the examples compute with
+opened : Unit {0}
+unfolding bankOf readOf putOf
+opened = tt
+
 -- All registers of a fresh bank are zero.
 last-general : getD freshGeneral 4095 9 ≡ 0
 last-general = refl
@@ -18,28 +23,28 @@ abbrev bank : List ℕ
 bank = set freshStatus 5 7
 
 a-register : readOf 128 bank 5 ≡ Value 7
-unfolding bankOf readOf
+unfolding opened
 a-register = refl
 
 -- A number from 128 on names no status register: nothing is read or written there.
 no-register : readOf 128 bank 128 ≡ NoRegister
-unfolding bankOf readOf
+unfolding opened
 no-register = refl
 
 nothing-written : putOf 128 bank 128 9 ≡ bank
-unfolding bankOf putOf
+unfolding opened
 nothing-written = refl
 
 -- A bank of another length is refused, and stays as it was.
 other-length : readOf 4096 bank 5 ≡ Refused BadBuffer
-unfolding bankOf readOf
+unfolding opened
 other-length = refl
 
 kept : putOf 4096 bank 5 9 ≡ bank
-unfolding bankOf putOf
+unfolding opened
 kept = refl
 
 -- A write by the player reaches that register alone.
 written : putOf 128 bank 6 9 ≡ set (set freshStatus 5 7) 6 9
-unfolding bankOf putOf
+unfolding opened
 written = refl

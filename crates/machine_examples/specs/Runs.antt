@@ -13,6 +13,11 @@ use Rattle.vm.specs.declared.Step.the-variants.{Continue, Skipped, Halted}
 use Rattle.vm.specs.Rules.{Banks, banks, after, stepped, compareOf, execSet, acted, execOf, stepOf, runFrom, runOf, commandsOf, budgetOf, answered, stepAnswer, runAnswer}
 use Rattle.marked_examples.specs.Cases.{command, nop}
 
+-- what the examples compute with
+opened : Unit {0}
+unfolding classOf writable branchOf operandOf commandOf nav.compareOf nav.setOf writtenStatus written applied setOf bankOf compareOf execSet acted execOf stepOf runFrom runOf commandsOf budgetOf answered stepAnswer runAnswer
+opened = tt
+
 abbrev fresh : Banks
 fresh = banks freshGeneral freshStatus
 
@@ -22,17 +27,17 @@ pair x y = set (set freshGeneral 1 x) 2 y
 
 -- A Swap exchanges both registers.
 swap : stepAnswer (command 0x5000_0002 1 2) 0 1 (banks (pair 3 4) freshStatus) ≡ after (pair 4 3) freshStatus (Done (stepped Continue 1))
-unfolding classOf writable operandOf commandOf nav.setOf writtenStatus written applied setOf bankOf execSet acted execOf stepOf commandsOf budgetOf answered stepAnswer
+unfolding opened
 swap = refl
 
 -- Nothing is done unless the first operand names a register: there is no status register 128.
 swap-of-none : stepAnswer (command 0x5000_0002 0x8000_0080 2) 0 1 (banks (pair 3 4) freshStatus) ≡ after (pair 3 4) freshStatus (Done (stepped Continue 1))
-unfolding classOf writable operandOf commandOf nav.setOf writtenStatus written applied setOf bankOf execSet acted execOf stepOf commandsOf budgetOf answered stepAnswer
+unfolding opened
 swap-of-none = refl
 
 -- An unknown compare holds: the next command is not skipped.
 unknown-compare : stepAnswer (command 0x4840_0800 1 7 ++ nop) 0 1 fresh ≡ after freshGeneral freshStatus (Done (stepped Continue 1))
-unfolding operandOf commandOf nav.compareOf bankOf compareOf acted execOf stepOf commandsOf budgetOf answered stepAnswer
+unfolding opened
 unknown-compare = refl
 
 -- Move r1, 16 and Move r2, 9.
@@ -41,19 +46,19 @@ moves = command 0x5040_0001 1 16 ++ command 0x5040_0001 2 9
 
 -- Both are obeyed, and a halt past the end is told beside the pc.
 both-obeyed : runAnswer moves 0 3 fresh ≡ after (pair 16 9) freshStatus (Done (stepped Halted 2))
-unfolding operandOf commandOf nav.setOf written applied setOf bankOf execSet acted execOf stepOf runFrom runOf commandsOf budgetOf answered runAnswer
+unfolding opened
 both-obeyed = refl
 
 -- A spent budget ends a run before a fetch.
 one-step : runAnswer moves 0 1 fresh ≡ after (pair 16 0) freshStatus (Done (stepped Halted 1))
-unfolding operandOf commandOf nav.setOf written applied setOf bankOf execSet acted execOf stepOf runFrom runOf commandsOf budgetOf answered runAnswer
+unfolding opened
 one-step = refl
 
 -- Commands not in whole twelves are refused, then a budget over 1,000,000, and nothing is altered.
 cut-commands : runAnswer (0 ∷ moves) 0 1_000_001 fresh ≡ after freshGeneral freshStatus (Refused BadBuffer)
-unfolding bankOf commandsOf budgetOf answered runAnswer
+unfolding opened
 cut-commands = refl
 
 over-budget : runAnswer moves 0 1_000_001 fresh ≡ after freshGeneral freshStatus (Refused BadBudget)
-unfolding bankOf commandsOf budgetOf answered runAnswer
+unfolding opened
 over-budget = refl
