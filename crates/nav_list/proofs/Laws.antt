@@ -1,7 +1,7 @@
 -- Texts by numbers. Assumes nothing.
 use mathlib.Core.Path.{_≡_, refl, ap, _∙_}
 use mathlib.Core.Bool.{true}
-use mathlib.Core.List.{List, [], _∷_, _++_, append-nil}
+use mathlib.Core.List.{List, _++_, append-nil}
 use Prim.Native.Nat.{ℕ, zero, suc, _%_, _<_}
 use native.Mathlib.Omega.{arith}
 use Rattle.text.specs.Rules.{bytes}
@@ -10,12 +10,7 @@ use Rattle.nav_list.specs.declared.Line.{Line}
 use Rattle.nav_list.specs.Rules.{statusText}
 use Rattle.nav_list.specs.Numbers.{headBy, operandBy, operandsBy, lineBy}
 
--- a number that is none of the keys of a match, here from the last to the first
-abbrev pub NoneOf : List ℕ → ℕ → Type 0
-NoneOf [] n = Unit
-NoneOf (k ∷ keys) n = NoneOf keys n × (n ≡ k → ⊥)
-
-pub head-named : (n sub code : ℕ) → (n ≡ 0 → ⊥) → headBy n sub code ≡ mnemonic n
+pub head-named : (n sub code : ℕ) → (n ≡ 0 → ⊥) → headBy n sub code ≡ mnemonic (n % 256)
 head-named zero sub code ne = absurd (ne refl)
 head-named (suc n) sub code ne = refl
 

@@ -105,9 +105,9 @@ unknown-short sub code digits h g =
 
 -- a line by numbers
 
-head-by : (n sub code : ℕ) → sub < 256 → code < 256 → length (headBy n sub code) ≤ 29
-head-by zero sub code h g = unknown-short sub code 3 (few-digits 2 10 sub (omega arith) (omega arith) (omega arith)) g
-head-by (suc n) sub code h g = omega (arith, mnemonic-short (suc n))
+head-by : (n sub code : ℕ) → length (headBy n sub code) ≤ 29
+head-by zero sub code = unknown-short (sub % 256) (code % 256) 3 (few-digits 2 10 (sub % 256) (omega arith) (omega arith) (omega arith)) (omega arith)
+head-by (suc n) sub code = omega (arith, mnemonic-short (suc n % 256))
 
 operand-by : (kind value : ℕ) → value < 0x1_0000_0000 → length (operandBy kind value) ≤ 36
 operand-by zero value h = omega arith
@@ -131,11 +131,11 @@ line-short {t} {l} h =
     let head : List ℕ = headBy (l .head .number) (l .head .sub) (l .head .code) in
     let operands : List ℕ = operandsBy (l .first .kind) (l .first .value) (l .second .kind) (l .second .value) in
     let e : length t ≡ length head + length operands = ap length (h .text) ∙ length-append head operands in
-    omega (arith, e, head-by (l .head .number) (l .head .sub) (l .head .code) (h .sub) (h .code), operands-by (l .first .kind) (l .first .value) (l .second .kind) (l .second .value) (h .first) (h .second))
+    omega (arith, e, head-by (l .head .number) (l .head .sub) (l .head .code), operands-by (l .first .kind) (l .first .value) (l .second .kind) (l .second .value) (h .first) (h .second))
 
 -- a decoded line: its sub-group has one digit
 
-abbrev Small : Operation → Type 0
+abbrev pub Small : Operation → Type 0
 Small (Branch op) = Unit
 Small (Compare op) = Unit
 Small (Set op) = Unit
@@ -179,7 +179,7 @@ small-set : (sub code : ℕ) → sub < 10 → code < 256 → Small (setOf sub co
 unfolding setOf
 small-set sub code h g = small-in (Unknown sub code ∷ getD setRows sub []) code (Unknown sub code) ((h, g), row-small setRows sub (search tt)) (h, g)
 
-small-operation : (g sub option compare set : ℕ) → sub < 10 → option < 256 → compare < 256 → set < 256 → Small (operationOf (groupOf g) sub option compare set)
+pub small-operation : (g sub option compare set : ℕ) → sub < 10 → option < 256 → compare < 256 → set < 256 → Small (operationOf (groupOf g) sub option compare set)
 small-operation zero sub option compare set h a b c = small-branch sub option h a
 small-operation (suc zero) sub option compare set h a b c = small-compare sub compare h b
 small-operation (suc (suc zero)) sub option compare set h a b c = small-set sub set h c

@@ -1,101 +1,108 @@
 -- The numbers of a line show its text. Assumes nothing.
 use mathlib.Core.Path.{_≡_, refl, sym, ap, _∙_}
 use mathlib.Core.Bool.{Bool, true, false}
-use mathlib.Core.List.{List, [], _∷_, _++_}
-use Prim.Native.Nat.{ℕ, zero, suc, _+_, _*_, _/_, _%_, _≤_, _<_}
-use native.Mathlib.Nat.{add-zero}
+use mathlib.Core.List.{List, _++_}
+use Prim.Native.Nat.{ℕ, _+_, _/_, _%_, _≤_, _<_}
+use native.Mathlib.Nat.{add-zero, mod-eq-of-lt}
 use native.Mathlib.Omega.{arith}
-use lib.Dec.{eqb, leb, ltb}
-use lib.ListN.{length, take, drop, getD}
-use borrow.Author.Tests.{lt-ltb, le-ltb}
+use lib.Dec.{eqb, leb}
+use lib.ListN.{take, drop}
 use Rattle.laws.specs.Part.{part-at}
-use Rattle.text.specs.Rules.{bytes}
 use Rattle.nav_names.specs.Rules.{mnemonic}
-use Rattle.nav_command.specs.declared.RegisterBank.{RegisterBank}
 use Rattle.nav_command.specs.declared.RegisterBank.the-variants.{Gpr, Psr, PsrSecondary}
 use Rattle.nav_command.specs.declared.Operand.{Operand}
 use Rattle.nav_command.specs.declared.Operand.the-variants.{Absent, Immediate, Register}
+use Rattle.nav_command.specs.declared.Operation.{Operation}
+use Rattle.nav_command.specs.declared.Operation.the-variants.{Branch, Compare, Set, System, Unknown}
 use Rattle.nav_command.specs.declared.DecodedCommand.{DecodedCommand}
-use Rattle.nav_command.specs.Rules.{byteAt, wordAt, groupOf, operationOf, bankOf, operandOf, commandOf}
-use Rattle.nav_list.specs.declared.Head.{Head}
-use Rattle.nav_list.specs.declared.Shown.{Shown}
+use Rattle.nav_command.specs.Rules.{byteAt, wordAt, groupOf, operationOf, operandOf, commandOf, numberOf}
+use Rattle.nav_numbers.specs.declared.Pair.{Pair}
+use Rattle.nav_numbers.specs.declared.Place.{Place}
+use Rattle.nav_numbers.specs.Rules.{unknownOf, operandPair}
+use Rattle.nav_numbers.specs.Pieces.{place, placeOf}
+use Rattle.nav_numbers.specs.Theorems.{small}
+use Rattle.nav_numbers.proofs.Laws.{branch-numbered, compare-numbered, set-numbered, system-numbered}
+use Rattle.nav_numbers.proofs.Rows.{low-place}
 use Rattle.nav_list.specs.declared.Line.{Line}
-use Rattle.nav_list.specs.Rules.{headText, operandText, secondText, operandsText, lineOf, lineAt}
-use Rattle.nav_list.specs.Numbers.{headBy, operandBy, secondBy, operandsBy, bankKind, kindOf, lineBy, Shows, Heads, Lines}
-use Rattle.nav_list.proofs.Laws.{NoneOf, head-named}
+use Rattle.nav_list.specs.Rules.{headText, secondText, operandsText, lineOf, lineAt}
+use Rattle.nav_list.specs.Numbers.{headBy, secondBy, operandsBy, lineBy, Lines}
+use Rattle.nav_list.proofs.Laws.{head-named}
+use Rattle.nav_list.proofs.Lengths.{Small, small-operation}
 
--- an operation with a name
-pub heads-named : (t : List ℕ) (n : ℕ) (h : Head) → t ≡ mnemonic n → (n ≡ 0 → ⊥) → (h .number ≡ n) × (h .sub ≡ 0) × (h .code ≡ 0) → Heads t h
-heads-named t n h e ne (p, q, r) =
-    record {
-      text = e ∙ sym (head-named n (h .sub) (h .code) ne) ∙ ap (λ (x : ℕ). headBy x (h .sub) (h .code)) (sym p);
-      sub = omega arith;
-      code = omega arith;
-    }
+-- an operation
 
--- a register, whose index is below 65,536
-pub shows-register : (bank : RegisterBank) (i k : ℕ) → i < 65536 → k ≡ bankKind bank → Shows (Register bank i) (record { kind = k; value = i })
-shows-register Gpr i k h e = let m : i % 65536 ≡ i = omega arith in record { sort = e; text = rw (e, m); fits = omega arith }
-shows-register Psr i k h e = let m : i % 65536 ≡ i = omega arith in record { sort = e; text = rw (e, m); fits = omega arith }
-shows-register PsrSecondary i k h e = let m : i % 65536 ≡ i = omega arith in record { sort = e; text = rw (e, m); fits = omega arith }
+named-shows : (n : ℕ) → (0 < n) × (n < 48) → mnemonic n ≡ headBy n 0 0
+named-shows n (p, h) =
+    let m : n % 256 ≡ n = omega arith in
+    sym (head-named n 0 0 (λ e. omega (arith, e)) ∙ ap mnemonic m)
 
--- an operand word of each bank
-pub shows-general : (w : ℕ) → w < 0x8000_0000 → Shows (operandOf true false w) (record { kind = 2; value = w % 4096 })
-unfolding operandOf
-shows-general w h = rw (lt-ltb w 0x8000_0000 h) (shows-register Gpr (w % 4096) 2 (omega arith) refl)
+head-shows : (op : Operation) → unknownOf op .kind < 256 → unknownOf op .value < 256 → headText op ≡ headBy (numberOf op) (unknownOf op .kind) (unknownOf op .value)
+head-shows (Branch op) h g = named-shows _ (branch-numbered op)
+head-shows (Compare op) h g = named-shows _ (compare-numbered op)
+head-shows (Set op) h g = named-shows _ (set-numbered op)
+head-shows (System op) h g = named-shows _ (system-numbered op)
+head-shows (Unknown sub code) h g = rw (mod-eq-of-lt h, mod-eq-of-lt g)
 
-pub shows-status : (w : ℕ) → 0x8000_0000 ≤ w → w < 0xC000_0000 → Shows (operandOf true false w) (record { kind = 3; value = w % 4096 })
-unfolding operandOf
-shows-status w h g = rw (le-ltb w 0x8000_0000 h, lt-ltb w 0xC000_0000 g) (shows-register Psr (w % 4096) 3 (omega arith) refl)
+-- both operands, whose register numbers are below 65,536
 
-pub shows-secondary : (w : ℕ) → 0xC000_0000 ≤ w → Shows (operandOf true false w) (record { kind = 4; value = w % 4096 })
-unfolding operandOf
-shows-secondary w h = rw (le-ltb w 0x8000_0000 (omega arith), le-ltb w 0xC000_0000 h) (shows-register PsrSecondary (w % 4096) 4 (omega arith) refl)
+second-shows : (o : Operand) → small o → secondText o ≡ secondBy (operandPair o .kind) (operandPair o .value)
+second-shows Absent h = refl
+second-shows (Immediate v) h = refl
+second-shows (Register Gpr i) h = rw (mod-eq-of-lt h)
+second-shows (Register Psr i) h = rw (mod-eq-of-lt h)
+second-shows (Register PsrSecondary i) h = rw (mod-eq-of-lt h)
 
-pub shows-immediate : (w : ℕ) → w < 0x1_0000_0000 → Shows (operandOf true true w) (record { kind = 1; value = w })
-unfolding operandOf
-shows-immediate w h = record { sort = refl; text = refl; fits = h }
+operands-show : (o p : Operand) → small o → small p → operandsText o p ≡ operandsBy (operandPair o .kind) (operandPair o .value) (operandPair p .kind) (operandPair p .value)
+operands-show Absent p h g = refl
+operands-show (Immediate v) p h g = rw (second-shows p g)
+operands-show (Register Gpr i) p h g = rw (mod-eq-of-lt h, second-shows p g)
+operands-show (Register Psr i) p h g = rw (mod-eq-of-lt h, second-shows p g)
+operands-show (Register PsrSecondary i) p h g = rw (mod-eq-of-lt h, second-shows p g)
 
-pub shows-absent : (i : Bool) (w : ℕ) → Shows (operandOf false i w) (record { kind = 0; value = 0 })
-unfolding operandOf
-shows-absent i w = record { sort = refl; text = refl; fits = omega arith }
+-- a line of an operation and two operands whose fields are of their types
 
--- both operands
+pub record Sized (op : Operation) (o p : Operand) : Type 0 where
+  pub sub : unknownOf op .kind < 256
+  pub code : unknownOf op .value < 256
+  pub first : small o
+  pub second : small p
 
-second-shows : (o : Operand) (s : Shown) → Shows o s → secondText o ≡ secondBy (s .kind) (s .value)
-second-shows Absent s h = rw (h .sort)
-second-shows (Immediate v) s h = let e = h .text in rw (h .sort) (ap (λ (x : List ℕ). bytes ", " ++ x) (rw (h .sort) at e))
-second-shows (Register Gpr i) s h = let e = h .text in rw (h .sort) (ap (λ (x : List ℕ). bytes ", " ++ x) (rw (h .sort) at e))
-second-shows (Register Psr i) s h = let e = h .text in rw (h .sort) (ap (λ (x : List ℕ). bytes ", " ++ x) (rw (h .sort) at e))
-second-shows (Register PsrSecondary i) s h = let e = h .text in rw (h .sort) (ap (λ (x : List ℕ). bytes ", " ++ x) (rw (h .sort) at e))
-
-first-shows : (t u : List ℕ) (k v : ℕ) (rest : List ℕ) → (k ≡ 0 → ⊥) → t ≡ operandBy k v → bytes " " ++ (t ++ rest) ≡ bytes " " ++ (operandBy k v ++ rest)
-first-shows t u k v rest ne e = ap (λ (x : List ℕ). bytes " " ++ (x ++ rest)) e
-
-operands-show : (o p : Operand) (a b : Shown) → Shows o a → Shows p b → operandsText o p ≡ operandsBy (a .kind) (a .value) (b .kind) (b .value)
-operands-show Absent p a b h g = rw (h .sort)
-operands-show (Immediate v) p a b h g = let e = h .text in rw (h .sort) (rw (second-shows p b g) (ap (λ (x : List ℕ). bytes " " ++ (x ++ secondBy (b .kind) (b .value))) (rw (h .sort) at e)))
-operands-show (Register Gpr i) p a b h g = let e = h .text in rw (h .sort) (rw (second-shows p b g) (ap (λ (x : List ℕ). bytes " " ++ (x ++ secondBy (b .kind) (b .value))) (rw (h .sort) at e)))
-operands-show (Register Psr i) p a b h g = let e = h .text in rw (h .sort) (rw (second-shows p b g) (ap (λ (x : List ℕ). bytes " " ++ (x ++ secondBy (b .kind) (b .value))) (rw (h .sort) at e)))
-operands-show (Register PsrSecondary i) p a b h g = let e = h .text in rw (h .sort) (rw (second-shows p b g) (ap (λ (x : List ℕ). bytes " " ++ (x ++ secondBy (b .kind) (b .value))) (rw (h .sort) at e)))
-
-abbrev line : Head → Shown → Shown → Line
+abbrev line : Place → Pair → Pair → Line
 line h a b = record { head = h; first = a; second = b }
 
-shows-line : (t : List ℕ) (o p : Operand) (h : Head) (a b : Shown) → Heads t h → Shows o a → Shows p b → t ++ operandsText o p ≡ lineBy (line h a b)
+shows : (op : Operation) (o p : Operand) → Sized op o p → headText op ++ operandsText o p ≡ lineBy (line (placeOf op) (operandPair o) (operandPair p))
 unfolding lineBy
-shows-line t o p h a b x y z = rw (operands-show o p a b y z) (ap (λ (w : List ℕ). w ++ operandsBy (a .kind) (a .value) (b .kind) (b .value)) (x .text))
+shows op o p s =
+    rw (operands-show o p (s .first) (s .second))
+    (ap (λ (w : List ℕ). w ++ operandsBy (operandPair o .kind) (operandPair o .value) (operandPair p .kind) (operandPair p .value)) (head-shows op (s .sub) (s .code)))
 
-pub lines : (c : DecodedCommand) (h : Head) (a b : Shown) → Heads (headText (c .operation)) h → Shows (c .operand1) a → Shows (c .operand2) b → Lines (lineOf c) (line h a b)
+told : (op : Operation) (o p : Operand) (t : List ℕ) {h : Place} {a b : Pair} → t ≡ headText op ++ operandsText o p → h ≡ placeOf op → a ≡ operandPair o → b ≡ operandPair p → Sized op o p → a .value < 0x1_0000_0000 → b .value < 0x1_0000_0000 → Lines t (line h a b)
+told op o p t e x y z s f g = record { text = e ∙ shows op o p s ∙ sym (same x y z); first = f; second = g }
+  where
+    same : {h h′ : Place} {a a′ b b′ : Pair} → h ≡ h′ → a ≡ a′ → b ≡ b′ → lineBy (line h a b) ≡ lineBy (line h′ a′ b′)
+    same x y z = cc
+
+pub lines : (c : DecodedCommand) {n : ℕ} {u a b : Pair} → n ≡ numberOf (c .operation) → u ≡ unknownOf (c .operation) → a ≡ operandPair (c .operand1) → b ≡ operandPair (c .operand2) → Sized (c .operation) (c .operand1) (c .operand2) → a .value < 0x1_0000_0000 → b .value < 0x1_0000_0000 → Lines (lineOf c) (line (place n (u .kind) (u .value)) a b)
 unfolding lineOf
-lines c h a b x y z =
-    record {
-      text = shows-line (headText (c .operation)) (c .operand1) (c .operand2) h a b x y z;
-      sub = x .sub;
-      code = x .code;
-      first = y .fits;
-      second = z .fits;
-    }
+lines c n u a b s f g = told (c .operation) (c .operand1) (c .operand2) _ refl (same n u) a b s f g
+  where
+    same : {n n′ : ℕ} {u u′ : Pair} → n ≡ n′ → u ≡ u′ → place n (u .kind) (u .value) ≡ place n′ (u′ .kind) (u′ .value)
+    same e f = cc
+
+-- the parts of a command in bytes are so
+
+unknown-small : (op : Operation) → Small op → (unknownOf op .kind < 256) × (unknownOf op .value < 256)
+unknown-small (Branch op) s = (omega arith, omega arith)
+unknown-small (Compare op) s = (omega arith, omega arith)
+unknown-small (Set op) s = (omega arith, omega arith)
+unknown-small (System op) s = (omega arith, omega arith)
+unknown-small (Unknown sub code) (h, g) = (omega arith, g)
+
+operand-small : (there immediate : Bool) (w : ℕ) → small (operandOf there immediate w)
+unfolding operandOf
+operand-small false immediate w = tt
+operand-small true true w = tt
+operand-small true false w = omega arith
 
 -- the twelve bytes at a place of a file
 
@@ -124,19 +131,22 @@ module _ (file : List ℕ) (from : ℕ) where
   unfolding lineAt lineOf commandOf
   line-is = rw (byte₀, part-at file from 12 1 (omega arith), part-at file from 12 2 (omega arith), part-at file from 12 3 (omega arith), word-part 4 (omega arith), word-part 8 (omega arith))
 
-  pub lines-at : (h : Head) (a b : Shown) → Heads (headText (operationOf (groupOf (b₀ / 8 % 4)) (b₀ % 8) (b₁ % 16) (byteAt file (from + 2)) (byteAt file (from + 3)))) h → Shows (operandOf (leb 1 (b₀ / 32)) (eqb (b₁ / 128) 1) (wordAt file (from + 4))) a → Shows (operandOf (leb 2 (b₀ / 32)) (eqb (b₁ / 64 % 2) 1) (wordAt file (from + 8))) b → Lines (lineAt file from) (line h a b)
-  lines-at h a b x y z =
-      record {
-        text = line-is ∙ shows-line _ _ _ h a b x y z;
-        sub = x .sub;
-        code = x .code;
-        first = y .fits;
-        second = z .fits;
-      }
-
--- a group without a name
-pub no-group : (g sub option compare set : ℕ) → NoneOf (2 ∷ 1 ∷ 0 ∷ []) g → sub < 256 → set < 256 → Heads (headText (operationOf (groupOf g) sub option compare set)) (record { number = 0; sub = sub; code = set })
-no-group zero sub option compare set (((r, a), b), c) h k = absurd (a refl)
-no-group (suc zero) sub option compare set (((r, a), b), c) h k = absurd (b refl)
-no-group (suc (suc zero)) sub option compare set (((r, a), b), c) h k = absurd (c refl)
-no-group (suc (suc (suc g))) sub option compare set r h k = record { text = refl; sub = h; code = k }
+  pub lines-at : {h : Place} {a b : Pair} →
+      h ≡ placeOf (operationOf (groupOf (b₀ % 32 / 8)) (b₀ % 32 % 8) (b₁ % 16) (byteAt file (from + 2)) (byteAt file (from + 3))) →
+      a ≡ operandPair (operandOf (leb 1 (b₀ / 32)) (eqb (b₁ / 128) 1) (wordAt file (from + 4))) →
+      b ≡ operandPair (operandOf (leb 2 (b₀ / 32)) (eqb (b₁ / 64 % 2) 1) (wordAt file (from + 8))) →
+      byteAt file (from + 2) < 256 → byteAt file (from + 3) < 256 → a .value < 0x1_0000_0000 → b .value < 0x1_0000_0000 →
+      Lines (lineAt file from) (line h a b)
+  lines-at x y z i j f g =
+      let op : Operation = operationOf (groupOf (b₀ / 8 % 4)) (b₀ % 8) (b₁ % 16) (byteAt file (from + 2)) (byteAt file (from + 3)) in
+      let o : Operand = operandOf (leb 1 (b₀ / 32)) (eqb (b₁ / 128) 1) (wordAt file (from + 4)) in
+      let p : Operand = operandOf (leb 2 (b₀ / 32)) (eqb (b₁ / 64 % 2) 1) (wordAt file (from + 8)) in
+      let narrow = unknown-small op (small-operation (b₀ / 8 % 4) (b₀ % 8) (b₁ % 16) (byteAt file (from + 2)) (byteAt file (from + 3)) (omega arith) (omega arith) i j) in
+      told op o p _ line-is (x ∙ low-place b₀ (b₁ % 16) (byteAt file (from + 2)) (byteAt file (from + 3))) y z
+      (record {
+        sub = narrow .0;
+        code = narrow .1;
+        first = operand-small (leb 1 (b₀ / 32)) (eqb (b₁ / 128) 1) (wordAt file (from + 4));
+        second = operand-small (leb 2 (b₀ / 32)) (eqb (b₁ / 64 % 2) 1) (wordAt file (from + 8));
+      })
+      f g

@@ -5,19 +5,13 @@ use mathlib.Core.Bool.{true, false}
 use mathlib.Core.List.{List, [], _++_}
 use Prim.Native.Nat.{ℕ, zero, suc, _%_, _<_}
 use Rattle.text.specs.Rules.{bytes}
-use Rattle.nav_command.specs.declared.RegisterBank.{RegisterBank}
-use Rattle.nav_command.specs.declared.RegisterBank.the-variants.{Gpr, Psr, PsrSecondary}
-use Rattle.nav_command.specs.declared.Operand.{Operand}
-use Rattle.nav_command.specs.declared.Operand.the-variants.{Absent, Immediate, Register}
 use Rattle.nav_list.specs.declared.Line.{Line}
-use Rattle.nav_list.specs.declared.Head.{Head}
-use Rattle.nav_list.specs.declared.Shown.{Shown}
 use Rattle.nav_names.specs.Rules.{mnemonic}
-use Rattle.nav_list.specs.Rules.{unknownText, immediateText, generalText, statusText, operandText}
+use Rattle.nav_list.specs.Rules.{unknownText, immediateText, generalText, statusText}
 
 abbrev pub headBy : ℕ → ℕ → ℕ → List ℕ
-headBy zero sub code = unknownText sub code
-headBy (suc number) sub code = mnemonic (suc number)
+headBy zero sub code = unknownText (sub % 256) (code % 256)
+headBy (suc number) sub code = mnemonic (suc number % 256)
 
 abbrev pub operandBy : ℕ → ℕ → List ℕ
 operandBy zero value = []
@@ -39,31 +33,8 @@ lineBy l =
     headBy (l .head .number) (l .head .sub) (l .head .code)
     ++ operandsBy (l .first .kind) (l .first .value) (l .second .kind) (l .second .value)
 
--- What the numbers of an operand and of a line show.
-
-abbrev pub bankKind : RegisterBank → ℕ
-bankKind Gpr = 2
-bankKind Psr = 3
-bankKind PsrSecondary = 4
-
-abbrev pub kindOf : Operand → ℕ
-kindOf Absent = 0
-kindOf (Immediate value) = 1
-kindOf (Register bank i) = bankKind bank
-
-pub record Shows (o : Operand) (s : Shown) : Type 0 where
-  pub sort : s .kind ≡ kindOf o
-  pub text : operandText o ≡ operandBy (s .kind) (s .value)
-  pub fits : s .value < 0x1_0000_0000
-
-pub record Heads (t : List ℕ) (h : Head) : Type 0 where
-  pub text : t ≡ headBy (h .number) (h .sub) (h .code)
-  pub sub : h .sub < 256
-  pub code : h .code < 256
-
+-- What the numbers of a line show.
 pub record Lines (t : List ℕ) (l : Line) : Type 0 where
   pub text : t ≡ lineBy l
-  pub sub : l .head .sub < 256
-  pub code : l .head .code < 256
   pub first : l .first .value < 0x1_0000_0000
   pub second : l .second .value < 0x1_0000_0000

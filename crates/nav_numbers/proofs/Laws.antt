@@ -5,10 +5,11 @@ use mathlib.Core.List.{List, []}
 use Prim.Native.Nat.{ℕ, _-_, _%_, _≤_, _<_}
 use native.Mathlib.Nat.{mod-eq-of-lt}
 use native.Mathlib.Omega.{arith}
-use lib.Dec.{eqb, leb}
+use lib.Dec.{eqb, leb, ltb}
 use lib.ListN.{length, getD}
 use lib.Seq.{ext-getD}
-use borrow.Author.Tests.{le-leb, lt-leb, eqb-true, eq-eqb}
+use borrow.Author.Tests.{ltb-true, ltb-false, le-leb, lt-leb, eqb-true, eq-eqb}
+use Rattle.laws.specs.Cases.{by-test}
 use Rattle.laws.specs.Firsts.{all-tells, all-made}
 use Rattle.nav_command.specs.declared.BranchOp.{BranchOp}
 use Rattle.nav_command.specs.declared.BranchOp.the-variants as B
@@ -130,6 +131,26 @@ system-back Y.StillOn other = refl
 system-back Y.StillOff other = refl
 system-back Y.SetOutputMode other = refl
 system-back Y.SetStreamSS other = refl
+
+-- an operation with a name has a number from 1 to 47, since no other number names it
+
+named-number : (n : ℕ) (op : Operation) → sheetNamed n (Unknown 0 0) ≡ op → (op ≡ Unknown 0 0 → ⊥) → (0 < n) × (n < 48)
+named-number n op e ne = (
+  by-test (ltb 0 n) (ltb-true 0 n) (λ t. absurd (ne (sym e ∙ sym (sheet-none n (Unknown 0 0) (omega (arith, ltb-false 0 n t)))))),
+  by-test (ltb n 48) (ltb-true n 48) (λ t. absurd (ne (sym e ∙ sym (sheet-past n (Unknown 0 0) (omega (arith, ltb-false n 48 t)))))),
+)
+
+pub branch-numbered : (op : BranchOp) → (0 < numberOf (Branch op)) × (numberOf (Branch op) < 48)
+branch-numbered op = named-number _ (Branch op) (branch-back op (Unknown 0 0)) (λ e. let z : _≡_ {A = ℕ} 0 1 = cc in omega arith)
+
+pub compare-numbered : (op : CompareOp) → (0 < numberOf (Compare op)) × (numberOf (Compare op) < 48)
+compare-numbered op = named-number _ (Compare op) (compare-back op (Unknown 0 0)) (λ e. let z : _≡_ {A = ℕ} 0 1 = cc in omega arith)
+
+pub set-numbered : (op : SetOp) → (0 < numberOf (Set op)) × (numberOf (Set op) < 48)
+set-numbered op = named-number _ (Set op) (set-back op (Unknown 0 0)) (λ e. let z : _≡_ {A = ℕ} 0 1 = cc in omega arith)
+
+pub system-numbered : (op : SystemOp) → (0 < numberOf (System op)) × (numberOf (System op) < 48)
+system-numbered op = named-number _ (System op) (system-back op (Unknown 0 0)) (λ e. let z : _≡_ {A = ℕ} 0 1 = cc in omega arith)
 
 unknown-back : (other : Operation) → sheetNamed 0 other ≡ other
 unfolding sheetNamed

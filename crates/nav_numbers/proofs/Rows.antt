@@ -14,6 +14,7 @@ use Rattle.nav_command.specs.declared.Operation.{Operation}
 use Rattle.nav_command.specs.declared.Operation.the-variants.{Compare, Unknown}
 use Rattle.nav_command.specs.Rules.{compares, branchRows, setRows, branchOf, compareOf, setOf, groups, groupOf, operationOf, operandOf, byteAt, wordAt, countOf, groupBits, subOf, immediate1, immediate2, commandOf}
 use Rattle.nav_command.proofs.Laws.{past}
+use Rattle.nav_numbers.specs.declared.Pair.{Pair}
 use Rattle.nav_numbers.specs.declared.Place.{Place}
 use Rattle.nav_numbers.specs.declared.Row.{Row}
 use Rattle.nav_numbers.specs.Rules.{pair, groupPair, operandPair, flagNumber, commandNumbers}
@@ -109,43 +110,39 @@ given-value false false w = refl
 given-value true true w = refl
 given-value true false w = refl
 
+pub operand-given : (there immediate : Bool) (w : ℕ) {a k v : ℕ} → a ≡ cond there w 0 → k ≡ operandPair (operandOf there immediate a) .kind → v ≡ cond immediate a (a % 4096) → pair k v ≡ operandPair (operandOf there immediate w)
+operand-given there immediate w a k v =
+    same
+    (k ∙ ap (λ (x : ℕ). operandPair (operandOf there immediate x) .kind) a ∙ given-kind there immediate w)
+    (v ∙ ap (λ (x : ℕ). cond immediate x (x % 4096)) a ∙ given-value there immediate w)
+  where
+    same : {k v : ℕ} {p : Pair} → k ≡ p .kind → v ≡ p .value → pair k v ≡ p
+    same {k} {v} {p} e f = ap (λ (x : ℕ). pair x v) e ∙ ap (pair (p .kind)) f
+
 -- ---- all of a command's numbers
 
-low-place : (head option compare set : ℕ) → placeOf (operationOf (groupOf (head % 32 / 8)) (head % 32 % 8) option compare set) ≡ placeOf (operationOf (groupOf (head / 8 % 4)) (head % 8) option compare set)
+pub low-place : (head option compare set : ℕ) → placeOf (operationOf (groupOf (head % 32 / 8)) (head % 32 % 8) option compare set) ≡ placeOf (operationOf (groupOf (head / 8 % 4)) (head % 8) option compare set)
 low-place head option compare set =
     let group : head % 32 / 8 ≡ head / 8 % 4 = omega arith in
     let sub : head % 32 % 8 ≡ head % 8 = omega arith in
     ap (λ (g : ℕ). placeOf (operationOf (groupOf g) (head % 32 % 8) option compare set)) group
     ∙ ap (λ (s : ℕ). placeOf (operationOf (groupOf (head / 8 % 4)) s option compare set)) sub
 
-abbrev thirteen : ℕ → ℕ → ℕ → ℕ → ℕ → ℕ → Place → ℕ → ℕ → ℕ → ℕ → List ℕ
-thirteen n kind value sub f1 f2 op k1 v1 k2 v2 =
-    n ∷ kind ∷ value ∷ sub ∷ f1 ∷ f2 ∷ op .number ∷ op .sub ∷ op .code ∷ k1 ∷ v1 ∷ k2 ∷ v2 ∷ []
+abbrev thirteen : ℕ → ℕ → ℕ → ℕ → ℕ → ℕ → Place → Pair → Pair → List ℕ
+thirteen n kind value sub f1 f2 op a b =
+    n ∷ kind ∷ value ∷ sub ∷ f1 ∷ f2 ∷ op .number ∷ op .sub ∷ op .code ∷ a .kind ∷ a .value ∷ b .kind ∷ b .value ∷ []
 
-same-thirteen : {n n′ kind kind′ value value′ sub sub′ f1 f1′ f2 f2′ : ℕ} {op op′ : Place} {k1 k1′ v1 v1′ k2 k2′ v2 v2′ : ℕ} →
-    n ≡ n′ → kind ≡ kind′ → value ≡ value′ → sub ≡ sub′ → f1 ≡ f1′ → f2 ≡ f2′ → op ≡ op′ → k1 ≡ k1′ → v1 ≡ v1′ → k2 ≡ k2′ → v2 ≡ v2′ →
-    thirteen n kind value sub f1 f2 op k1 v1 k2 v2 ≡ thirteen n′ kind′ value′ sub′ f1′ f2′ op′ k1′ v1′ k2′ v2′
-same-thirteen e1 e2 e3 e4 e5 e6 e7 e8 e9 e10 e11 = cc
+same-thirteen : {n n′ kind kind′ value value′ sub sub′ f1 f1′ f2 f2′ : ℕ} {op op′ : Place} {a a′ b b′ : Pair} →
+    n ≡ n′ → kind ≡ kind′ → value ≡ value′ → sub ≡ sub′ → f1 ≡ f1′ → f2 ≡ f2′ → op ≡ op′ → a ≡ a′ → b ≡ b′ →
+    thirteen n kind value sub f1 f2 op a b ≡ thirteen n′ kind′ value′ sub′ f1′ f2′ op′ a′ b′
+same-thirteen e1 e2 e3 e4 e5 e6 e7 e8 e9 = cc
 
-module _ (l : List ℕ) where
-  abbrev first : Bool
-  first = leb 1 (countOf l)
-
-  abbrev second : Bool
-  second = leb 2 (countOf l)
-
-  pub numbers-told : {op : Place} {a b n kind value sub f1 f2 k1 v1 k2 v2 : ℕ} →
-      op ≡ placeOf (operationOf (groupOf (byteAt l 0 % 32 / 8)) (byteAt l 0 % 32 % 8) (byteAt l 1 % 16) (byteAt l 2) (byteAt l 3)) →
-      a ≡ cond first (wordAt l 4) 0 → b ≡ cond second (wordAt l 8) 0 →
-      n ≡ countOf l → kind ≡ groupPair (groupOf (groupBits l)) .kind → value ≡ groupPair (groupOf (groupBits l)) .value → sub ≡ subOf l →
-      f1 ≡ flagNumber (immediate1 l) → f2 ≡ flagNumber (immediate2 l) →
-      k1 ≡ operandPair (operandOf first (immediate1 l) a) .kind → v1 ≡ cond (immediate1 l) a (a % 4096) →
-      k2 ≡ operandPair (operandOf second (immediate2 l) b) .kind → v2 ≡ cond (immediate2 l) b (b % 4096) →
-      thirteen n kind value sub f1 f2 op k1 v1 k2 v2 ≡ commandNumbers (commandOf l)
-  unfolding commandNumbers commandOf
-  numbers-told o a b n kind value sub f1 f2 k1 v1 k2 v2 =
-      same-thirteen n kind value sub f1 f2 (o ∙ low-place (byteAt l 0) (byteAt l 1 % 16) (byteAt l 2) (byteAt l 3))
-      (k1 ∙ ap (λ (w : ℕ). operandPair (operandOf first (immediate1 l) w) .kind) a ∙ given-kind first (immediate1 l) (wordAt l 4))
-      (v1 ∙ ap (λ (w : ℕ). cond (immediate1 l) w (w % 4096)) a ∙ given-value first (immediate1 l) (wordAt l 4))
-      (k2 ∙ ap (λ (w : ℕ). operandPair (operandOf second (immediate2 l) w) .kind) b ∙ given-kind second (immediate2 l) (wordAt l 8))
-      (v2 ∙ ap (λ (w : ℕ). cond (immediate2 l) w (w % 4096)) b ∙ given-value second (immediate2 l) (wordAt l 8))
+pub numbers-told : (l : List ℕ) {op : Place} {a b : Pair} {n kind value sub f1 f2 : ℕ} →
+    op ≡ placeOf (operationOf (groupOf (byteAt l 0 % 32 / 8)) (byteAt l 0 % 32 % 8) (byteAt l 1 % 16) (byteAt l 2) (byteAt l 3)) →
+    a ≡ operandPair (operandOf (leb 1 (countOf l)) (immediate1 l) (wordAt l 4)) → b ≡ operandPair (operandOf (leb 2 (countOf l)) (immediate2 l) (wordAt l 8)) →
+    n ≡ countOf l → kind ≡ groupPair (groupOf (groupBits l)) .kind → value ≡ groupPair (groupOf (groupBits l)) .value → sub ≡ subOf l →
+    f1 ≡ flagNumber (immediate1 l) → f2 ≡ flagNumber (immediate2 l) →
+    thirteen n kind value sub f1 f2 op a b ≡ commandNumbers (commandOf l)
+unfolding commandNumbers commandOf
+numbers-told l o a b n kind value sub f1 f2 =
+    same-thirteen n kind value sub f1 f2 (o ∙ low-place (byteAt l 0) (byteAt l 1 % 16) (byteAt l 2) (byteAt l 3)) a b

@@ -1,12 +1,12 @@
 // One command as thirteen numbers: those of the decoded record, those straight from the bytes, and back.
 ghost use mathlib.Core.Path.{_≡_};
 ghost use mathlib.Core.Bool.{cond};
-ghost use Prim.Native.Nat.{_+_, _/_, _%_, _≤_};
+ghost use Prim.Native.Nat.{_+_, _/_, _%_, _≤_, _<_};
 ghost use Rattle.laws.specs.Firsts.{all};
 ghost use Rattle.nav_command.specs.Rules.{numberOf, operationOf, groupOf, operandOf, commandOf};
 ghost use Rattle.nav_numbers.specs.Rules.{flagNumber, pair, unknownOf, groupPair, bankKind, operandPair, commandNumbers, groupNamed, operandNamed, sheetNamed, operationNamed, commandNamed, sameAt, isCommand};
 ghost use Rattle.nav_numbers.specs.Pieces.{placeOf, rowOf, rowIn, Numbered, rowPlace};
-ghost use Rattle.nav_numbers.specs.Theorems.{NumbersNameCommands};
+ghost use Rattle.nav_numbers.specs.Theorems.{small, NumbersNameCommands};
 use common::number_at;
 use nav_command::BranchOp;
 use nav_command::CommandGroup;
@@ -25,7 +25,7 @@ pub struct Pair {
 }
 
 // An operation: its place on the sheet, and the sub-group and code of one that has none.
-struct Place {
+pub struct Place {
     pub number: u32,
     pub sub: u32,
     pub code: u32,
@@ -67,7 +67,7 @@ pub fn operation_number(operation: Operation) -> u32
 }
 
 pub fn unknown_of(operation: Operation) -> Pair
-    ensures { λ r. ⌜ r ≡ unknownOf operation ⌝ }
+    ensures { λ r. ⌜ (r ≡ unknownOf operation) × (r .kind < 256) × (r .value < 256) ⌝ }
 {
     match operation {
         Operation::Branch(_) => pair_of(0, 0),
@@ -99,8 +99,8 @@ fn bank_kind(bank: RegisterBank) -> u32
     }
 }
 
-fn operand_pair(operand: Operand) -> Pair
-    ensures { λ r. ⌜ r ≡ operandPair operand ⌝ }
+pub fn operand_pair(operand: Operand) -> Pair
+    ensures { λ r. ⌜ (r ≡ operandPair operand) × small operand ⌝ }
 {
     match operand {
         Operand::Absent => pair_of(0, 0),
@@ -228,7 +228,7 @@ fn placed(at: u32, row: Row, sub: u32, code: u32) -> Place
     }
 }
 
-fn operation_at(low: u8, option: u8, compare: u8, set: u8) -> Place
+pub fn operation_at(low: u8, option: u8, compare: u8, set: u8) -> Place
     ensures { λ r. ⌜ r ≡ placeOf (operationOf (groupOf (low / 8)) (low % 8) option compare set) ⌝ }
 {
     let group = low / 8;
@@ -269,6 +269,16 @@ fn operand_value(immediate: bool, word: u32) -> u32
     either(immediate, word, word % 4096)
 }
 
+// An operand as it stands on a disc.
+pub fn operand_at(there: bool, immediate: bool, word: u32) -> Pair
+    ensures { λ r. ⌜ r ≡ operandPair (operandOf there immediate word) ⌝ }
+{
+    let given = either(there, word, 0);
+    let kind = operand_kind(there, immediate, given);
+    let value = operand_value(immediate, given);
+    Pair { kind, value }
+}
+
 // The numbers of the command that twelve bytes are.
 pub fn numbers_of(bytes: &[u8; 12]) -> [u32; 13]
     ensures { λ r. ⌜ r ≡ commandNumbers (commandOf (now (bytes .entry))) ⌝ }
@@ -280,8 +290,8 @@ pub fn numbers_of(bytes: &[u8; 12]) -> [u32; 13]
     let immediate1 = flags / 128 == 1;
     let immediate2 = flags / 64 % 2 == 1;
     let operation = operation_at(head % 32, flags % 16, bytes[2], bytes[3]);
-    let a = either(count >= 1, common::be32(bytes, 4), 0);
-    let b = either(count >= 2, common::be32(bytes, 8), 0);
+    let a = operand_at(count >= 1, immediate1, common::be32(bytes, 4));
+    let b = operand_at(count >= 2, immediate2, common::be32(bytes, 8));
     [
         wide(count),
         group_kind(bits),
@@ -292,10 +302,10 @@ pub fn numbers_of(bytes: &[u8; 12]) -> [u32; 13]
         operation.number,
         operation.sub,
         operation.code,
-        operand_kind(count >= 1, immediate1, a),
-        operand_value(immediate1, a),
-        operand_kind(count >= 2, immediate2, b),
-        operand_value(immediate2, b),
+        a.kind,
+        a.value,
+        b.kind,
+        b.value,
     ]
 }
 
@@ -359,7 +369,7 @@ const SYSTEMS: [SystemOp; 11] = [
     SystemOp::SetStreamSS,
 ];
 
-fn low_byte(number: u32) -> u8
+pub fn low_byte(number: u32) -> u8
     ensures { λ r. ⌜ r ≡ number % 256 ⌝ }
 {
     (number % 256) as u8
