@@ -3,20 +3,22 @@ use mathlib.Core.Path.{_≡_, refl}
 use mathlib.Core.List.{List, [], _∷_}
 use Prim.Native.Nat.{ℕ}
 use lib.ListN.{replicate}
-use Rattle.laws.specs.Firsts.{sum, blocks}
+use Rattle.laws.specs.Firsts.{sum, all, blocks}
+use Rattle.laws.specs.Over.{over}
 use Rattle.common.specs.Rules.{be2, be4, bytes2, bytes4, headerOf}
 use Rattle.movie_object.specs.Rules.{countOf, next, place, bodyOf, verdictOf, headAt, objectOf}
 use Rattle.movie_object_write.specs.Rules.{cmdsAt, objectBytes, object, headBytes, sizeOf, fileOf}
 use Rattle.nav_command.specs.Rules.{branchOf, operandOf, commandOf}
-use Rattle.nav_numbers.specs.Rules.{commandNumbers}
+use Rattle.nav_encode.specs.Rules.{bytesOf, same, encodable, encodeOf}
+use Rattle.nav_numbers.specs.Rules.{commandNumbers, groupNamed, operandNamed, sheetNamed, commandNamed, isCommand}
 use Rattle.registers.specs.Rules.{freshStatus, bankOf, readOf}
 use Rattle.nav_driver.specs.declared.DriveOutcome.the-variants as D
 use Rattle.numbers.specs.Rules.{driveNumbers}
-use Rattle.mescjadro.specs.Rules.{handed, decodeCall, objectCall, readCall}
+use Rattle.mescjadro.specs.Rules.{handed, decodeCall, encodeCall, objectCall, readCall}
 
 -- what the examples compute with
 opened : Unit {0}
-unfolding sum blocks be2 be4 bytes2 bytes4 headerOf countOf next place bodyOf verdictOf headAt objectOf cmdsAt objectBytes object headBytes sizeOf fileOf branchOf operandOf commandOf commandNumbers bankOf readOf decodeCall objectCall readCall
+unfolding sum all blocks over be2 be4 bytes2 bytes4 headerOf countOf next place bodyOf verdictOf headAt objectOf cmdsAt objectBytes object headBytes sizeOf fileOf branchOf operandOf commandOf bytesOf same encodable encodeOf commandNumbers groupNamed operandNamed sheetNamed commandNamed isCommand bankOf readOf decodeCall encodeCall objectCall readCall
 opened = tt
 
 -- a file of one object with a Nop, which asks to be resumed
@@ -39,9 +41,21 @@ unfolding opened
 register-128 = refl
 
 -- Nop, without operands, is the first of the sheet.
-nop : decodeCall (replicate 12 0) (replicate 13 9) ≡ handed 0 (0 ∷ 0 ∷ 0 ∷ 0 ∷ 0 ∷ 0 ∷ 1 ∷ 0 ∷ 0 ∷ 0 ∷ 0 ∷ 0 ∷ 0 ∷ [])
+abbrev nop : List ℕ
+nop = 0 ∷ 0 ∷ 0 ∷ 0 ∷ 0 ∷ 0 ∷ 1 ∷ 0 ∷ 0 ∷ 0 ∷ 0 ∷ 0 ∷ 0 ∷ []
+
+nop-decoded : decodeCall (replicate 12 0) (replicate 13 9) ≡ handed 0 nop
 unfolding opened
-nop = refl
+nop-decoded = refl
+
+nop-encoded : encodeCall nop (replicate 12 9) ≡ handed 0 (replicate 12 0)
+unfolding opened
+nop-encoded = refl
+
+-- 9 not encodable: an operation without a place on the sheet whose sub-group and code are those of Nop.
+no-such-unknown : encodeCall (replicate 13 0) (replicate 12 9) ≡ handed 9 (replicate 12 9)
+unfolding opened
+no-such-unknown = refl
 
 -- Twelve numbers are no room for a command's thirteen.
 twelve-numbers : decodeCall (replicate 12 0) (replicate 12 9) ≡ handed 6 (replicate 12 9)
