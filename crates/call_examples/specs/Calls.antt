@@ -13,7 +13,13 @@ use Rattle.nav_encode.specs.Rules.{bytesOf, same, encodable, encodeOf}
 use Rattle.nav_numbers.specs.Rules.{commandNumbers, groupNamed, operandNamed, sheetNamed, commandNamed, isCommand}
 use Rattle.registers.specs.Rules.{freshStatus, bankOf, readOf}
 use Rattle.nav_driver.specs.declared.DriveOutcome.the-variants as D
+use Rattle.nav_driver.specs.declared.DriveAnswer.the-variants.{Refused}
+use Rattle.nav_driver.specs.Rules.{rooms}
+use Rattle.error.specs.declared.Refusal.the-variants.{BadSession}
+use Rattle.lent.specs.Rules.{ended}
+use Rattle.vm.specs.Rules.{banks}
 use Rattle.numbers.specs.Rules.{driveNumbers}
+use Rattle.mescjadro_driver.specs.Rules.{driverBy}
 use Rattle.mescjadro.specs.Rules.{handed, decodeCall, encodeCall, objectCall, readCall}
 
 -- what the examples compute with
@@ -61,6 +67,11 @@ no-such-unknown = refl
 twelve-numbers : decodeCall (replicate 12 0) (replicate 12 9) ≡ handed 6 (replicate 12 9)
 unfolding opened
 twelve-numbers = refl
+
+-- 8 bad session: the arrays of the session, of the outcome and of both kinds of frames stay as they were.
+bad-session : driverBy (rooms (Refused BadSession) (banks [] []) (1 ∷ 2 ∷ []) (3 ∷ 4 ∷ 5 ∷ [])) (replicate 6 9) (replicate 6 7)
+    ≡ rooms (ended 8 (replicate 6 9) (replicate 6 7)) (banks [] []) (1 ∷ 2 ∷ []) (3 ∷ 4 ∷ 5 ∷ [])
+bad-session = refl
 
 -- Bad title 7.
 bad-title : driveNumbers (D.BadTitle 7) ≡ 3 ∷ 7 ∷ 0 ∷ 0 ∷ 0 ∷ 0 ∷ []

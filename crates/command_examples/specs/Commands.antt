@@ -13,7 +13,7 @@ use Rattle.nav_command.specs.declared.SetOp.the-variants as S
 use Rattle.nav_command.specs.declared.Operation.the-variants as O
 use Rattle.nav_command.specs.declared.CommandGroup.the-variants as G
 use Rattle.nav_command.specs.declared.RegisterBank.the-variants.{Gpr, PsrSecondary}
-use Rattle.nav_command.specs.declared.Operand.the-variants.{Immediate, Register}
+use Rattle.nav_command.specs.declared.Operand.the-variants.{Absent, Immediate, Register}
 use Rattle.nav_command.specs.declared.DecodedCommand.{DecodedCommand}
 use Rattle.nav_command.specs.Rules.{branchOf, compareOf, setOf, operandOf, commandOf}
 use Rattle.nav_encode.specs.Rules.{wordBytes, bytesOf, same, encodable, encoding, encodeOf}
@@ -57,6 +57,11 @@ compare-code = refl
 index-4087 : commandOf (command 0x5000_0001 5 0xC000_0FF7) .operand2 ≡ Register PsrSecondary 4087
 unfolding operandOf commandOf
 index-4087 = refl
+
+-- A count of 1 gives operand 1 alone.
+count-1 : commandOf (command 0x2181_0000 0x1_0001 7) .operand2 ≡ Absent
+unfolding operandOf commandOf
+count-1 = refl
 
 -- The encoder writes the command whose ignored bits are zero, and no byte past it.
 encoded : encodeOf move (room 13) ≡ encoding Fine (p2 ++ (0xFF ∷ []))

@@ -23,6 +23,11 @@ call-title : mnemonic (numberOf (Branch CallTitle)) ≡ bytes "CallTitle"
 unfolding mnemonic
 call-title = refl
 
+-- A status register is followed by its name.
+title-number : nameText 4 ≡ bytes "(Title)"
+unfolding classOf nameOf nameText
+title-number = refl
+
 -- An unknown code is listed with its sub-group.
 unknown-code : lineAt (command 0x030A_0000 0 0) 0 ≡ bytes "Unknown(sub_grp=3,sel=0xA)"
 unfolding numeral branchOf operandOf commandOf unknownText lineOf lineAt
