@@ -25,5 +25,6 @@ pub mod chance;
 pub mod generate;
 #[cfg(feature = "library")]
 pub mod library;
+pub mod lists;
 pub mod numbers;
 pub mod paper;

@@ -165,25 +165,6 @@ pub fn entry_of(number: u32) -> Option<TitleEntry> {
     }
 }
 
-/// A system operation as the stored lists have it: 1 to 11, or 1,000 and more for an unknown one by its sub-group and code.
-pub fn system(op: Operation) -> u32 {
-    match op {
-        Operation::SetStream => 1,
-        Operation::SetNvTimer => 2,
-        Operation::SetButtonPage => 3,
-        Operation::EnableButton => 4,
-        Operation::DisableButton => 5,
-        Operation::SetSecondaryStream => 6,
-        Operation::PopUpOff => 7,
-        Operation::StillOn => 8,
-        Operation::StillOff => 9,
-        Operation::SetOutputMode => 10,
-        Operation::SetStreamSS => 11,
-        Operation::Unknown { sub_grp, selector } => 1000 + 256 * sub_grp as u32 + selector as u32,
-        _ => 0,
-    }
-}
-
 /// The command with its ignored bits cleared, as the Rust's decoder shows which they are.
 pub fn cleared(command: [u8; 12]) -> [u8; 12] {
     let decoded = DecodedCommand::decode(&command);

@@ -5,18 +5,18 @@
 //! big-endian. A disc: the lengths of its index and of its object file (2 each), then both. A case: the place of its disc
 //! (4), then its calls (1). A call is one of two.
 //! - 0 run and 1 resume of the runner, 2 run and 3 resume of the driver: the object or entry (4), budgets of steps, objects
-//!   and titles (2 each); the answer as its kind (1), two values (4 each) and an operation (2); the session's entry (4),
-//!   object and pc (2 each), both depths and pending (1 each); the live object frames (8 each) and title frames (12 each).
+//!   and titles (2 each); the six numbers of the outcome and the six of the session (4 each); the live object frames (8
+//!   each) and title frames (12 each).
 //! - 4, a register that the player writes: 0 general or 1 status (1), number (2), value (4).
 //!
-//! After each call stand the registers that then hold something else than before (1, then 7 each, as written by the player).
-use mescjadro_compare::bdmv::index_bdmv::{AppInfoBdmv, IndexBdmv, IndexEntry, IndexObjectType, TitleEntry};
-use mescjadro_compare::bdmv::mobj_runner::{self, RunOutcome};
+//! After each call stand the registers that then are not zero (2, then 7 each, as written by the player).
+use mescjadro_compare::bdmv::index_bdmv::{AppInfoBdmv, IndexBdmv, IndexEntry, IndexObjectType};
+use mescjadro_compare::bdmv::mobj_runner;
 use mescjadro_compare::bdmv::movie_object::{MovieObject, MovieObjects, NavCommand};
-use mescjadro_compare::bdmv::nav_driver::{self, DriveOutcome, NavDriver};
-use mescjadro_compare::bdmv::vm::{self, NavRequest, Registers};
+use mescjadro_compare::bdmv::nav_driver::{self, NavDriver};
 use mescjadro_compare::chance::Chance;
-use mescjadro_compare::numbers::system;
+use mescjadro_compare::lists::{put, put_register, put_registers};
+use mescjadro_compare::numbers::{drove, entry_number, entry_of, ran};
 use std::io::Write;
 
 const CASES: usize = 1200;
@@ -181,68 +181,6 @@ fn example_disc() -> Disc {
     disc_of(hdmv(1), hdmv(0), vec![hdmv(2)], objects)
 }
 
-// Answers in numbers.
-
-type Answer = (u8, u32, u32, u16);
-
-fn of_request(request: NavRequest) -> Answer {
-    match request {
-        NavRequest::JumpObject { mobj_id } => (3, mobj_id, 0, 0),
-        NavRequest::JumpTitle { title } => (4, title, 0, 0),
-        NavRequest::CallObject { mobj_id } => (5, mobj_id, 0, 0),
-        NavRequest::CallTitle { title } => (6, title, 0, 0),
-        NavRequest::Resume => (7, 0, 0, 0),
-        NavRequest::PlayPlayList { playlist } => (8, playlist, 0, 0),
-        NavRequest::PlayPlayListAtPlayItem { playlist, play_item } => (9, playlist, play_item, 0),
-        NavRequest::PlayPlayListAtMark { playlist, mark } => (10, playlist, mark, 0),
-        NavRequest::TerminatePlayList => (11, 0, 0, 0),
-        NavRequest::LinkPlayItem { play_item } => (12, play_item, 0, 0),
-        NavRequest::LinkMark { mark } => (13, mark, 0, 0),
-        NavRequest::SetSystem { op, operand1, operand2 } => (14, operand1, operand2, system(op) as u16),
-    }
-}
-
-fn of_run(outcome: RunOutcome) -> Answer {
-    match outcome {
-        RunOutcome::Finished => (0, 0, 0, 0),
-        RunOutcome::BadObject(object) => (1, object, 0, 0),
-        RunOutcome::BudgetExhausted => (2, 0, 0, 0),
-        RunOutcome::Request(request) => of_request(request),
-    }
-}
-
-fn of_drive(outcome: DriveOutcome) -> Answer {
-    match outcome {
-        DriveOutcome::Finished => (0, 0, 0, 0),
-        DriveOutcome::BadObject(object) => (1, object, 0, 0),
-        DriveOutcome::BudgetExhausted => (2, 0, 0, 0),
-        DriveOutcome::Request(request) => of_request(request),
-        DriveOutcome::BadTitle(title) => (15, title as u32, 0, 0),
-        DriveOutcome::Play(play) => match (play.play_item, play.mark) {
-            (None, None) => (16, play.playlist, 0, 0),
-            (Some(item), None) => (16, play.playlist, item, 1),
-            (None, Some(mark)) => (16, play.playlist, mark, 2),
-            (Some(_), Some(_)) => (16, play.playlist, 0, 3),
-        },
-    }
-}
-
-fn entry_number(entry: TitleEntry) -> u32 {
-    match entry {
-        TitleEntry::Title { number } => number as u32,
-        TitleEntry::FirstPlayback => 65_536,
-        TitleEntry::TopMenu => 65_537,
-    }
-}
-
-fn entry_of(number: u32) -> TitleEntry {
-    match number {
-        65_536 => TitleEntry::FirstPlayback,
-        65_537 => TitleEntry::TopMenu,
-        number => TitleEntry::Title { number: number as u16 },
-    }
-}
-
 // Calls.
 
 enum Call {
@@ -278,21 +216,6 @@ fn calls(c: &mut Chance, disc: &Disc) -> Vec<Call> {
     calls
 }
 
-fn registers(driver: &NavDriver) -> Vec<u32> {
-    let registers: &Registers = driver.registers();
-    [&vm::probe::general(registers)[..], &vm::probe::status(registers)[..]].concat()
-}
-
-fn put_changes(out: &mut Vec<u8>, before: &[u32], now: &[u32]) {
-    let changed: Vec<usize> = (0..now.len()).filter(|&i| now[i] != before[i]).collect();
-    out.push(changed.len().try_into().unwrap());
-    for i in changed {
-        out.push((i >= 4096) as u8);
-        out.extend(((i % 4096) as u16).to_be_bytes());
-        out.extend(now[i].to_be_bytes());
-    }
-}
-
 /// The session that a call left, and its live frames; none where there are more of them than the list takes.
 fn put_session(out: &mut Vec<u8>, driver: &NavDriver) -> Option<()> {
     let runner = nav_driver::probe::runner(driver);
@@ -301,18 +224,14 @@ fn put_session(out: &mut Vec<u8>, driver: &NavDriver) -> Option<()> {
     if frames.len() > DEEPEST || titles.len() > DEEPEST {
         return None;
     }
-    out.extend(entry_number(driver.current_entry()).to_be_bytes());
-    out.extend(u16::try_from(runner.current_object()).unwrap().to_be_bytes());
-    out.extend(u16::try_from(runner.vm.pc()).unwrap().to_be_bytes());
-    out.extend([frames.len() as u8, titles.len() as u8, nav_driver::probe::pending(driver) as u8]);
+    let (object, pc, pending) = (runner.current_object(), runner.vm.pc(), nav_driver::probe::pending(driver));
+    put(out, &[entry_number(driver.current_entry()), object as u32, pc as u32]);
+    put(out, &[frames.len() as u32, titles.len() as u32, pending as u32]);
     for (object, pc) in frames {
-        out.extend((object as u32).to_be_bytes());
-        out.extend((pc as u32).to_be_bytes());
+        put(out, &[object as u32, pc as u32]);
     }
     for (entry, object, pc) in titles {
-        out.extend(entry_number(entry).to_be_bytes());
-        out.extend((object as u32).to_be_bytes());
-        out.extend((pc as u32).to_be_bytes());
+        put(out, &[entry_number(entry), object as u32, pc as u32]);
     }
     Some(())
 }
@@ -323,9 +242,8 @@ fn write(driver: &mut NavDriver, status: bool, index: u16, value: u32, out: &mut
     } else {
         driver.registers_mut().set_gpr(index, value);
     }
-    out.extend([4, status as u8]);
-    out.extend(index.to_be_bytes());
-    out.extend(value.to_be_bytes());
+    out.push(4);
+    put_register(out, status, index, value);
 }
 
 fn make(driver: &mut NavDriver, call: &Call, out: &mut Vec<u8>, seen: &mut [usize]) -> Option<()> {
@@ -342,23 +260,20 @@ fn make(driver: &mut NavDriver, call: &Call, out: &mut Vec<u8>, seen: &mut [usiz
             let waited = nav_driver::probe::pending(driver);
             let runner = nav_driver::probe::runner_mut(driver);
             mobj_runner::probe::set_budgets(runner, steps as u64, objects as u64);
-            let (answer, a, b, op) = match kind {
-                0 => of_run(runner.run(argument as usize)),
-                1 => of_run(runner.resume()),
-                2 => of_drive(driver.run(entry_of(argument))),
-                _ => of_drive(driver.resume()),
+            let outcome = match kind {
+                0 => ran(runner.run(argument as usize)),
+                1 => ran(runner.resume()),
+                2 => drove(driver.run(entry_of(argument).unwrap())),
+                _ => drove(driver.resume()),
             };
             out.push(kind);
-            out.extend(argument.to_be_bytes());
+            put(out, &[argument]);
             out.extend([steps, objects, titles].map(u16::to_be_bytes).concat());
-            out.push(answer);
-            out.extend(a.to_be_bytes());
-            out.extend(b.to_be_bytes());
-            out.extend(op.to_be_bytes());
+            put(out, &outcome);
             put_session(out, driver)?;
             seen[kind as usize] += 1;
             seen[5] += (kind == 3 && waited) as usize;
-            seen[8 + answer as usize] += 1;
+            seen[8 + outcome[0] as usize] += 1;
         }
     }
     Some(())
@@ -371,9 +286,8 @@ fn case(disc: &Disc, place: u32, calls: &[Call], idle: usize, seen: &mut Vec<usi
     let mut driver = NavDriver::new(&disc.index, &disc.objects);
     let mut counted = seen.clone();
     for call in calls {
-        let before = registers(&driver);
         make(&mut driver, call, &mut out, &mut counted)?;
-        put_changes(&mut out, &before, &registers(&driver));
+        put_registers(&mut out, driver.registers());
     }
     if counted[3] - counted[5] > seen[3] - seen[5] + idle {
         return None;
@@ -402,14 +316,15 @@ fn examples() -> [Vec<Call>; 2] {
 fn main() {
     let mut c = Chance(0x6472_6976_6573);
     let (mut discs, mut cases) = (Vec::new(), Vec::new());
-    let mut seen = vec![0; 25];
+    let mut seen = vec![0; 16];
     let (place, disc_read) = put_disc(&mut discs, example_disc());
     for calls in examples() {
         cases.push(case(&disc_read, place, &calls, 0, &mut seen).unwrap());
     }
-    // Answer, object, pc and depth of the one; answer, PlayList and entry of the other.
-    assert_eq!((cases[0][16], &cases[0][31..36]), (2, &[0, 0, 0, 1, 0][..]));
-    assert_eq!((cases[1][16], &cases[1][17..21], &cases[1][27..31]), (16, &[0, 0, 0, 7][..], &[0, 0, 0, 1][..]));
+    // Outcome, object, pc and depth of the one; outcome, PlayList and entry of the other.
+    let told = |case: &[u8], n: usize| u32::from_be_bytes(case[16 + 4 * n..20 + 4 * n].try_into().unwrap());
+    assert_eq!([0, 7, 8, 9].map(|n| told(&cases[0], n)), [5, 0, 1, 0]);
+    assert_eq!([0, 1, 6].map(|n| told(&cases[1], n)), [1, 7, 1]);
     while cases.len() < CASES {
         let (place, disc_read) = put_disc(&mut discs, disc(&mut c));
         let mut left = CASES_A_DISC;
@@ -427,9 +342,9 @@ fn main() {
     out.extend((6 + discs.len() as u32).to_be_bytes());
     out.extend(discs);
     out.extend(cases.concat());
-    assert!(out.len() < 300_000, "{} bytes", out.len());
+    assert!(out.len() < 400_000, "{} bytes", out.len());
     eprintln!("runner: {} runs, {} resumes; {} writes by the player", seen[0], seen[1], seen[4]);
     eprintln!("driver: {} runs, {} resumes, {} of them pending", seen[2], seen[3], seen[5]);
-    eprintln!("answers by kind: {:?}", &seen[8..]);
+    eprintln!("outcomes by number: {:?}", &seen[8..]);
     std::io::stdout().write_all(&out).expect("standard output");
 }

@@ -1,13 +1,14 @@
 //! Cases for the command machine with the Rust's answers, as `replay_vm` reads them from its standard input.
 //!
-//! A case: the number of commands (2 bytes), pc and step budget (4 each), registers to set (1, then 7 each: 0 general or 1
-//! status, number, value), the commands, calls (1, then 18 each: 0 a step or 1 a run, then the answer in five numbers), and
-//! the registers that then hold something else (2, then 7 each). All numbers are big-endian; the number of cases stands first.
+//! A case: the number of commands (2 bytes), pc and step budget (4 each), registers to set (2, then 7 each: 0 general or 1
+//! status, number, value), the commands, calls (1, then 25 each: 0 a step or 1 a run, then the answer's five numbers and pc),
+//! and the registers that then are not zero (2, then 7 each). All numbers are big-endian; the number of cases stands first.
 use mescjadro_compare::bdmv::movie_object::NavCommand;
-use mescjadro_compare::bdmv::vm::{HdmvVm, NavRequest, Step, probe};
+use mescjadro_compare::bdmv::vm::{HdmvVm, Step};
 use mescjadro_compare::chance::Chance;
 use mescjadro_compare::generate::commands::count;
-use mescjadro_compare::numbers::system;
+use mescjadro_compare::lists::{put, put_register, put_registers};
+use mescjadro_compare::numbers;
 use std::io::Write;
 
 const CASES: u16 = 1200;
@@ -51,50 +52,20 @@ fn command(c: &mut Chance, commands: usize) -> [u32; 3] {
     [head | rest, a, b]
 }
 
-fn numbers(step: Step) -> [u32; 4] {
-    let Step::Branch(request) = step else {
-        return match step {
-            Step::Continue => [0, 0, 0, 0],
-            Step::Skipped => [1, 0, 0, 0],
-            _ => [2, 0, 0, 0],
-        };
-    };
-    match request {
-        NavRequest::JumpObject { mobj_id } => [3, mobj_id, 0, 0],
-        NavRequest::JumpTitle { title } => [4, title, 0, 0],
-        NavRequest::CallObject { mobj_id } => [5, mobj_id, 0, 0],
-        NavRequest::CallTitle { title } => [6, title, 0, 0],
-        NavRequest::Resume => [7, 0, 0, 0],
-        NavRequest::PlayPlayList { playlist } => [8, playlist, 0, 0],
-        NavRequest::PlayPlayListAtPlayItem { playlist, play_item } => [9, playlist, play_item, 0],
-        NavRequest::PlayPlayListAtMark { playlist, mark } => [10, playlist, mark, 0],
-        NavRequest::TerminatePlayList => [11, 0, 0, 0],
-        NavRequest::LinkPlayItem { play_item } => [12, play_item, 0, 0],
-        NavRequest::LinkMark { mark } => [13, mark, 0, 0],
-        NavRequest::SetSystem { op, operand1, operand2 } => [14, operand1, operand2, system(op)],
-    }
-}
-
-fn entry(out: &mut Vec<u8>, kind: u8, index: u16, value: u32) {
-    out.push(kind);
-    out.extend(index.to_be_bytes());
-    out.extend(value.to_be_bytes());
-}
-
 /// Registers that the player sets before the first call.
 fn put_held(c: &mut Chance, vm: &mut HdmvVm, out: &mut Vec<u8>) {
-    let sets = 5 + c.below(6) as u8;
-    out.push(sets);
+    let sets = 5 + c.below(6) as u16;
+    out.extend(sets.to_be_bytes());
     for _ in 0..sets {
         let value = c.one(&VALUES[1..]);
         if c.once_in(2) {
             let index = c.one(&GENERAL) as u16;
             vm.registers.set_gpr(index, value);
-            entry(out, 0, index, value);
+            put_register(out, false, index, value);
         } else {
             let index = c.one(&STATUS) as u16;
             vm.registers.set_psr_player(index as u8, value);
-            entry(out, 1, index, value);
+            put_register(out, true, index, value);
         }
     }
 }
@@ -107,11 +78,9 @@ fn put_calls(c: &mut Chance, vm: &mut HdmvVm, commands: &[NavCommand], out: &mut
     for i in 1..=most {
         let run = i == most || c.once_in(12);
         let step = if run { vm.run(commands) } else { vm.step(commands) };
-        let [kind, a, b, op] = numbers(step);
-        calls.extend([run as u8, kind as u8]);
-        for number in [a, b, op, vm.pc() as u32] {
-            calls.extend(number.to_be_bytes());
-        }
+        calls.push(run as u8);
+        put(&mut calls, &numbers::step(step));
+        put(&mut calls, &[vm.pc() as u32]);
         made += 1;
         if step == Step::Halted && !c.once_in(4) {
             break;
@@ -119,21 +88,6 @@ fn put_calls(c: &mut Chance, vm: &mut HdmvVm, commands: &[NavCommand], out: &mut
     }
     out.push(made);
     out.extend(calls);
-}
-
-/// The registers that hold something else than before.
-fn put_changes(out: &mut Vec<u8>, general: &[u32], status: &[u32], vm: &HdmvVm) {
-    let mut changed = Vec::new();
-    let banks: [(&[u32], &[u32]); 2] =
-        [(general, probe::general(&vm.registers)), (status, probe::status(&vm.registers))];
-    for (kind, (before, now)) in banks.into_iter().enumerate() {
-        let differ = (0..before.len()).filter(|&i| now[i] != before[i]);
-        changed.extend(differ.map(|i| (kind as u8, i as u16, now[i])));
-    }
-    out.extend((changed.len() as u16).to_be_bytes());
-    for (kind, index, value) in changed {
-        entry(out, kind, index, value);
-    }
 }
 
 fn case(c: &mut Chance, out: &mut Vec<u8>) {
@@ -149,15 +103,13 @@ fn case(c: &mut Chance, out: &mut Vec<u8>) {
     vm.set_pc(pc);
     vm.set_step_budget(budget);
     out.extend((length as u16).to_be_bytes());
-    out.extend((pc as u32).to_be_bytes());
-    out.extend((budget as u32).to_be_bytes());
+    put(out, &[pc as u32, budget as u32]);
     put_held(c, &mut vm, out);
     for command in &commands {
         out.extend(command.bytes);
     }
-    let (general, status) = (*probe::general(&vm.registers), *probe::status(&vm.registers));
     put_calls(c, &mut vm, &commands, out);
-    put_changes(out, &general, &status, &vm);
+    put_registers(out, &vm.registers);
 }
 
 fn main() {
@@ -166,6 +118,6 @@ fn main() {
     for _ in 0..CASES {
         case(&mut chance, &mut out);
     }
-    assert!(out.len() < 300_000, "{} bytes", out.len());
+    assert!(out.len() < 400_000, "{} bytes", out.len());
     std::io::stdout().write_all(&out).expect("standard output");
 }

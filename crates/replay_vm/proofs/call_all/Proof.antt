@@ -5,17 +5,17 @@ use Rattle.replay_vm.proofs.call_all.Statement.{statement}
 use Rattle.replay_vm.proofs.call_all.Tie as tie
 
 abbrev Inv-loop : tie.InvT-loop
-Inv-loop gpr₀ psr₀ commands input at count start budget next₀ left₀ pc₀ wrong₀ gpr psr next left pc wrong =
+Inv-loop gpr₀ psr₀ commands first input machine₀ so-far₀ left₀ gpr psr machine so-far left =
     (length gpr ≡ length gpr₀) × (length psr ≡ length psr₀)
 
 abbrev μ-loop : tie.MeasureT-loop
-μ-loop gpr₀ psr₀ commands input at count start budget next₀ left₀ pc₀ wrong₀ gpr psr next left pc wrong = left
+μ-loop gpr₀ psr₀ commands first input machine₀ so-far₀ left₀ gpr psr machine so-far left = left
 
 loop-holds : tie.Need-loop-holds Inv-loop μ-loop
 loop-holds c = (refl, refl)
 
 loop-again : tie.Need-loop-again Inv-loop μ-loop
-loop-again c = (c .before .before .before .before .before .before .before .before .call .kept .0 ∙ c .before .before .before .before .before .before .before .before .before .before .before .before .before .loop .inv .0, c .before .before .before .before .before .before .before .before .call .kept .1 .0 ∙ c .before .before .before .before .before .before .before .before .before .before .before .before .before .loop .inv .1)
+loop-again c = (c .before .before .before .before .before .before .before .call .kept .0 ∙ c .before .before .before .before .before .before .before .before .before .before .before .before .loop .inv .0, c .before .before .before .before .before .before .before .call .kept .1 .0 ∙ c .before .before .before .before .before .before .before .before .before .before .before .before .loop .inv .1)
 
 same-length : tie.Need-same-length Inv-loop μ-loop
 same-length c = c .before .loop .inv .0
@@ -29,9 +29,9 @@ call-all-spec =
     (tie.spec
     Inv-loop
     μ-loop
+    (λ c κs. search needs)
+    (λ c κs. search needs)
     loop-holds
-    (λ c κs. search needs)
-    (λ c κs. search needs)
     (λ c κs. search needs)
     (λ c κs. search needs)
     (λ c κs. search needs)

@@ -1,8 +1,9 @@
 use Prim.Native.Nat.{_≤_, _-_}
+use native.Mathlib.Omega.{arith}
 use lib.ListN.{length}
 use borrow.Author.Needs.{needs}
-use Rattle.replay_drives.proofs.bank_differences.Statement.{statement}
-use Rattle.replay_drives.proofs.bank_differences.Tie as tie
+use Rattle.replay_list.proofs.bank_differences.Statement.{statement}
+use Rattle.replay_list.proofs.bank_differences.Tie as tie
 
 abbrev Inv-loop : tie.InvT-loop
 Inv-loop got expected wrong₀ i₀ wrong i = i ≤ length got
@@ -16,12 +17,13 @@ bank-differences-spec =
     (tie.spec
     Inv-loop
     μ-loop
-    (λ c. search needs)
+    (λ c. omega arith)
+    (λ c. omega arith)
+    (λ c. omega arith)
     (λ c κs. search needs)
     (λ c κs. search needs)
     (λ c κs. search needs)
-    (λ c κs. search needs)
-    (λ c. search needs)
-    (λ c. search needs)
-    (λ c. search needs)
-    (λ c. search needs))
+    (λ c. omega arith)
+    (λ c. omega arith)
+    (λ c. omega arith)
+    (λ c. tt))

@@ -1,15 +1,15 @@
 use mathlib.Core.Path.{_≡_, refl, _∙_}
 use lib.ListN.{length}
 use borrow.Author.Needs.{needs}
-use Rattle.replay_drives.proofs.set_all.Statement.{statement}
-use Rattle.replay_drives.proofs.set_all.Tie as tie
+use Rattle.replay_list.proofs.set_all.Statement.{statement}
+use Rattle.replay_list.proofs.set_all.Tie as tie
 
 abbrev Inv-loop : tie.InvT-loop
-Inv-loop gpr₀ psr₀ input at count next₀ left₀ gpr psr next left =
+Inv-loop gpr₀ psr₀ input at next₀ left₀ gpr psr next left =
     (length gpr ≡ length gpr₀) × (length psr ≡ length psr₀)
 
 abbrev μ-loop : tie.MeasureT-loop
-μ-loop gpr₀ psr₀ input at count next₀ left₀ gpr psr next left = left
+μ-loop gpr₀ psr₀ input at next₀ left₀ gpr psr next left = left
 
 loop-holds : tie.Need-loop-holds Inv-loop μ-loop
 loop-holds c = (refl, refl)
@@ -29,6 +29,8 @@ set-all-spec =
     (tie.spec
     Inv-loop
     μ-loop
+    (λ c κs. search needs)
+    (λ c κs. search needs)
     loop-holds
     (λ c κs. search needs)
     (λ c κs. search needs)
