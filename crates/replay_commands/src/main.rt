@@ -13,6 +13,8 @@ use nav_command::Operand;
 use nav_command::Operation;
 use nav_command::RegisterBank;
 use nav_list::Listed;
+use replay_list::print;
+use replay_list::same;
 
 // An operation in numbers.
 struct Coded {
@@ -114,20 +116,6 @@ fn put_fields(out: &mut [u8], command: DecodedCommand) {
     put_operand(out, c, operand2);
 }
 
-fn same(a: &[u8], b: &[u8]) -> bool {
-    if a.len() != b.len() {
-        return false;
-    }
-    let mut i = 0;
-    while i < a.len() {
-        if a[i] != b[i] {
-            return false;
-        }
-        i += 1;
-    }
-    true
-}
-
 fn fields_agree(fields: &[u8], command: DecodedCommand) -> bool {
     let mut ours = [0u8; 17];
     put_fields(&mut ours, command);
@@ -159,20 +147,8 @@ fn text_agrees(line: &[u8], command: DecodedCommand) -> bool {
 fn agrees(head: &[u8], line: &[u8]) -> bool
     requires { ⌜ length (now head) ≡ 42 ⌝ }
 {
-    let bytes = [
-        head[0],
-        head[1],
-        head[2],
-        head[3],
-        head[4],
-        head[5],
-        head[6],
-        head[7],
-        head[8],
-        head[9],
-        head[10],
-        head[11],
-    ];
+    let mut bytes = [0u8; 12];
+    text::put(&mut bytes, 0, &head[0..12]);
     let command = DecodedCommand::decode(&bytes);
     let encoded = bytes_agree(&head[12..24], command);
     let decoded = fields_agree(&head[24..41], command);
@@ -197,14 +173,7 @@ fn replay_one(input: &[u8], at: usize) -> Replayed
     Replayed::Next(to, agrees(&input[at..from], &input[from..to]))
 }
 
-fn print(number: u64, words: &[u8]) {
-    io::print_decimal(STDOUT_FILENO, number);
-    io::write_all(STDOUT_FILENO, words);
-}
-
-fn tell(line: u64, agreed: bool) -> u64
-    ensures { λ r. ⌜ r ≤ 1 ⌝ }
-{
+fn tell(line: u32, agreed: bool) -> u32 {
     if agreed {
         return 0;
     }
@@ -214,23 +183,27 @@ fn tell(line: u64, agreed: bool) -> u64
 
 fn replay(input: &[u8]) {
     let mut at = 0;
-    let mut lines: u64 = 0;
-    let mut wrong: u64 = 0;
+    let mut lines = 0;
+    let mut wrong = 0;
     while 42 <= input.len() - at {
         let Replayed::Next(next, agreed) = replay_one(input, at) else {
             io::write_all(STDOUT_FILENO, b"the last line is cut\n");
             return;
         };
-        lines += 1;
-        wrong += tell(lines, agreed);
+        lines = word::add(lines, 1);
+        wrong = word::add(wrong, tell(lines, agreed));
         at = next;
     }
     print(lines, b" commands compared\n");
     print(wrong, b" differ\n");
 }
 
+fn replay_read(input: &mut [u8]) {
+    let count = io::read_full(STDIN_FILENO, input);
+    replay(&input[..count]);
+}
+
 fn main() {
     let mut input = [0u8; 300000];
-    let count = io::read_full(STDIN_FILENO, &mut input);
-    replay(&input[..count]);
+    replay_read(&mut input);
 }

@@ -15,11 +15,16 @@ use index_bdmv::IndexObjectType;
 use index_bdmv::Lead;
 use index_bdmv::Resolved;
 use libc::STDIN_FILENO;
-use libc::STDOUT_FILENO;
 use movie_object::MovieObject;
 use movie_object::MovieObjects;
 use movie_object::Object;
 use nav_list::Listed;
+use replay_list::byte;
+use replay_list::half;
+use replay_list::number;
+use replay_list::part;
+use replay_list::print;
+use replay_list::same;
 
 // The listing program takes at most so many bytes.
 const LISTED: usize = 65536;
@@ -49,40 +54,8 @@ fn wide(byte: u8) -> u32
     byte as u32
 }
 
-// The input, big-endian; past its end it is zero.
-fn byte(input: &[u8], at: u32) -> u32
-    ensures { λ r. ⌜ r < 256 ⌝ }
-{
-    let i = at as usize;
-    if i < input.len() { wide(input[i]) } else { 0 }
-}
-
-fn half(input: &[u8], at: u32) -> u32
-    ensures { λ r. ⌜ r < 65536 ⌝ }
-{
-    byte(input, at) * 256 + byte(input, word::add(at, 1))
-}
-
-fn number(input: &[u8], at: u32) -> u32 {
-    half(input, at) * 65536 + half(input, word::add(at, 2))
-}
-
-fn part(input: &[u8], at: u32, length: u32) -> &[u8]
-    requires { ⌜ length < 65536 ⌝ }
-{
-    let from = at as usize;
-    let to = from + (length as usize);
-    if to <= input.len() {
-        &input[from..to]
-    } else {
-        &input[0..0]
-    }
-}
-
 // One run: so many bytes of the input, so many times.
-fn put_run(input: &[u8], at: u32, length: u32, times: u32, out: &mut [u8], from: usize) -> usize
-    requires { ⌜ length < 65536 ⌝ }
-{
+fn put_run(input: &[u8], at: u32, length: u32, times: u32, out: &mut [u8], from: usize) -> usize {
     let mut to = from;
     let mut left = times;
     while left > 0 {
@@ -95,10 +68,10 @@ fn put_run(input: &[u8], at: u32, length: u32, times: u32, out: &mut [u8], from:
 fn unpack(input: &[u8], at: u32, out: &mut [u8]) -> Unpacked {
     let mut next = word::add(at, 2);
     let mut size = 0;
-    let mut left = half(input, at);
+    let mut left = half(input, at, 0);
     while left > 0 {
-        let times = number(input, next);
-        let length = half(input, word::add(next, 4));
+        let times = number(input, next, 0);
+        let length = half(input, next, 4);
         size = put_run(input, word::add(next, 6), length, times, out, size);
         next = word::add(next, word::add(6, length));
         left -= 1;
@@ -144,20 +117,6 @@ fn with_more(so_far: Measured, bytes: &[u8]) -> Measured {
 fn put_measured(out: &mut [u8], at: usize, measured: Measured) -> usize {
     let a = put_number(out, at, measured.length);
     put_number(out, a, measured.sum)
-}
-
-fn same(a: &[u8], b: &[u8]) -> bool {
-    if a.len() != b.len() {
-        return false;
-    }
-    let mut i = 0;
-    while i < a.len() {
-        if a[i] != b[i] {
-            return false;
-        }
-        i += 1;
-    }
-    true
 }
 
 // What a writer made: its length and sum, and whether it is the file.
@@ -303,9 +262,9 @@ fn put_asked_object(out: &mut [u8], from: usize, file: &[u8], n: u32) -> usize {
 fn put_asked_objects(out: &mut [u8], from: usize, file: &[u8], input: &[u8], asked: u32) -> usize {
     let mut at = from;
     let mut next = word::add(asked, 2);
-    let mut left = half(input, asked);
+    let mut left = half(input, asked, 0);
     while left > 0 {
-        at = put_asked_object(out, at, file, number(input, next));
+        at = put_asked_object(out, at, file, number(input, next, 0));
         next = word::add(next, 4);
         left -= 1;
     }
@@ -469,9 +428,9 @@ fn put_resolved(out: &mut [u8], at: usize, index: &[u8], entry: u32) -> usize {
 fn put_asked_entries(out: &mut [u8], from: usize, index: &[u8], input: &[u8], asked: u32) -> usize {
     let mut at = from;
     let mut next = word::add(asked, 2);
-    let mut left = half(input, asked);
+    let mut left = half(input, asked, 0);
     while left > 0 {
-        let entry = number(input, next);
+        let entry = number(input, next, 0);
         let stands = put_entry(out, at, index, entry);
         at = put_resolved(out, stands, index, entry);
         next = word::add(next, 4);
@@ -663,7 +622,7 @@ fn replay_file(input: &[u8], kind: u32, file: &[u8], asked: u32) -> Replayed {
     let mut ours = [0u8; 2048];
     let mut theirs = [0u8; 2048];
     let count = answer(&mut ours, kind, file, input, asked);
-    let told = word::add(asked, word::add(2, half(input, asked) * 4));
+    let told = word::add(asked, word::add(2, half(input, asked, 0) * 4));
     let unpacked = unpack(input, told, &mut theirs);
     let answered = (unpacked.size % 0x1_0000_0000) as u32;
     if agree(&ours, count, &theirs, unpacked.size) {
@@ -684,7 +643,7 @@ fn replay(input: &[u8], at: u32, file: &mut [u8]) -> Replayed {
     let unpacked = unpack(input, word::add(at, 1), file);
     let size = unpacked.size;
     if size <= file.len() {
-        return replay_file(input, byte(input, at), &file[..size], unpacked.next);
+        return replay_file(input, byte(input, at, 0), &file[..size], unpacked.next);
     }
     Replayed {
         next: unpacked.next,
@@ -693,16 +652,11 @@ fn replay(input: &[u8], at: u32, file: &mut [u8]) -> Replayed {
     }
 }
 
-fn print(number: u64, words: &[u8]) {
-    io::print_decimal(STDOUT_FILENO, number);
-    io::write_all(STDOUT_FILENO, words);
-}
-
 fn replay_all(input: &[u8], file: &mut [u8]) -> Replayed {
     let mut next = 2;
     let mut answered = 0;
     let mut wrong = 0;
-    let mut left = half(input, 0);
+    let mut left = half(input, 0, 0);
     while left > 0 {
         let replayed = replay(input, next, file);
         next = replayed.next;
@@ -718,22 +672,24 @@ fn replay_all(input: &[u8], file: &mut [u8]) -> Replayed {
 }
 
 // The room is enough for an index of 65,535 titles.
-fn replay_list(input: &[u8]) -> Replayed {
+fn replay_with_room(input: &[u8]) -> Replayed {
     let mut file = [0u8; 800000];
     replay_all(input, &mut file)
 }
 
-// A list that goes on or that is cut differs too.
-fn at_end(next: u32, got: usize) -> u32 {
-    if next as usize == got { 0 } else { 1 }
+fn replay_read(input: &mut [u8]) {
+    let got = io::read_full(STDIN_FILENO, input);
+    let replayed = replay_with_room(input);
+    print(half(input, 0, 0), b" files, ");
+    print(replayed.answered, b" bytes of answers, ");
+    let end = replay_list::Replayed {
+        next: replayed.next,
+        wrong: replayed.wrong,
+    };
+    replay_list::tell(end, got);
 }
 
 fn main() {
     let mut input = [0u8; 200000];
-    let got = io::read_full(STDIN_FILENO, &mut input);
-    let replayed = replay_list(&input);
-    let wrong = word::add(replayed.wrong, at_end(replayed.next, got));
-    print(half(&input, 0) as u64, b" files, ");
-    print(replayed.answered as u64, b" bytes of answers, ");
-    print(wrong as u64, b" differences\n");
+    replay_read(&mut input);
 }

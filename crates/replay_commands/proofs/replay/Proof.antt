@@ -1,4 +1,4 @@
--- `replay` goes from record to record; there are no more lines than bytes. Assumes nothing.
+-- `replay` goes from record to record. Assumes nothing.
 use Prim.Native.Nat.{_≤_, _-_}
 use native.Mathlib.Omega.{arith}
 use lib.ListN.{length}
@@ -8,19 +8,16 @@ use Rattle.replay_commands.proofs.replay.Statement.{statement}
 use Rattle.replay_commands.proofs.replay.Tie as tie
 
 abbrev Inv-loop : tie.InvT-loop
-Inv-loop input at₀ lines₀ wrong₀ t7 t8 t9 at lines wrong = (at ≤ length input) × (lines ≤ at) × (wrong ≤ lines)
+Inv-loop input at₀ lines₀ wrong₀ t7 t8 t9 at lines wrong = at ≤ length input
 
 abbrev μ-loop : tie.MeasureT-loop
 μ-loop input at₀ lines₀ wrong₀ t7 t8 t9 at lines wrong = length input - at
 
-loop-holds : tie.Need-loop-holds Inv-loop μ-loop
-loop-holds c = (omega arith, omega arith, omega arith)
-
 loop-less : tie.Need-loop-less Inv-loop μ-loop
-loop-less c = let o = onward (c .before .before .before .before .replay-one .ensures) (c .before .before .next .given .1) in omega arith
+loop-less c = let o = onward (c .before .before .before .before .before .before .replay-one .ensures) (c .before .before .before .before .next .given .1) in omega arith
 
 loop-again : tie.Need-loop-again Inv-loop μ-loop
-loop-again c = let o = onward (c .before .before .before .before .replay-one .ensures) (c .before .before .next .given .1) in (omega arith, omega arith, omega arith)
+loop-again c = let o = onward (c .before .before .before .before .before .before .replay-one .ensures) (c .before .before .before .before .next .given .1) in omega arith
 
 pub replay-spec : {M : Type 1} → statement M
 replay-spec =
@@ -28,7 +25,7 @@ replay-spec =
     (tie.spec
     Inv-loop
     μ-loop
-    loop-holds
+    (λ c. omega arith)
     (λ c. omega arith)
     (λ c κs. omega arith)
     (λ c. search needs)
@@ -36,9 +33,9 @@ replay-spec =
     (λ c. search needs)
     (λ c κs. tt)
     (λ c. tt)
-    (λ c. omega arith)
+    (λ c κs. search needs)
     (λ c κs. tt)
-    (λ c. omega arith)
+    (λ c κs. search needs)
     loop-less
     loop-again
     (λ c. search needs)
