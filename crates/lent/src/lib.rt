@@ -1,16 +1,14 @@
 // Numbers into lent arrays, and refusals by number: what the calls for C share.
 use error::Refusal;
-use session::Session;
 ghost use mathlib.Core.Path.{_≡_};
 ghost use lib.ListN.{length};
 ghost use Rattle.error.specs.Rules.{numberOf};
-ghost use Rattle.numbers.specs.Rules.{sessionNumbers};
 ghost use Rattle.lent.specs.Rules.{lengthsFit};
 
 pub fn refused(why: Refusal) -> u32
     ensures { λ r. ⌜ r ≡ numberOf why ⌝ }
 {
-    numbers::refusal_number(why)
+    why.number() as u32
 }
 
 // Numbers into an array that has room for just them.
@@ -30,12 +28,4 @@ pub fn lengths_fit(budgets: &[u32], session: &[u32], outcome: &[u32]) -> bool
     ensures { λ r. ⌜ r ≡ lengthsFit (now (budgets .entry)) (now (session .entry)) (now (outcome .entry)) ⌝ }
 {
     (budgets.len() == 3) & ((session.len() == 6) & (outcome.len() == 6))
-}
-
-pub fn put_session(s: Session, session: &mut [u32])
-    requires { ⌜ length (now session) ≡ 6 ⌝ }
-    ensures { λ _. ⌜ now (session .exit) ≡ sessionNumbers s ⌝ }
-{
-    let found = numbers::session_numbers(s);
-    put(session, &found);
 }

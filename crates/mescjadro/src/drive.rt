@@ -22,7 +22,7 @@ fn hand_run(answer: RunAnswer, session: &mut [u32], outcome: &mut [u32]) -> u32
             let how = end.outcome;
             let s = end.session;
             let found = numbers::run_numbers(how);
-            lent::put_session(s, session);
+            numbers::put_session(s, session);
             lent::put(outcome, &found);
             0
         }

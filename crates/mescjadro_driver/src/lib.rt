@@ -21,7 +21,7 @@ fn hand_drive(answer: DriveAnswer, session: &mut [u32], outcome: &mut [u32]) -> 
             let how = end.outcome;
             let s = end.session;
             let found = numbers::drive_numbers(how);
-            lent::put_session(s, session);
+            numbers::put_session(s, session);
             lent::put(outcome, &found);
             0
         }

@@ -1,13 +1,12 @@
 // The numbers of answers and of sessions, as the C interface hands them out; the Rust has its enums alone.
 ghost use mathlib.Core.Path.{_≡_};
-ghost use Rattle.error.specs.Rules.{numberOf as refusalNumber};
+ghost use lib.ListN.{length};
 ghost use Rattle.nav_command.specs.Rules.{numberOf};
 ghost use Rattle.nav_numbers.specs.Rules.{unknownOf};
 ghost use Rattle.numbers.specs.Rules.{verdictNumber, request, requestOf, stepNumbers, bad, requesting, optionOf, playing, driveNumbers, runNumbers, checkNumbers, sessionNumbers, sessionOf, budgetNumbers, budgetsOf};
 ghost use Rattle.numbers.specs.Apart.{ToldApart};
 use common::number_at;
 use disc_check::DiscCheck;
-use error::Refusal;
 use error::Verdict;
 use mobj_runner::RunOutcome;
 use nav_command::Operation;
@@ -34,19 +33,13 @@ pub struct Request {
 
 // Refusals.
 
-pub fn refusal_number(why: Refusal) -> u32
-    ensures { λ r. ⌜ r ≡ refusalNumber why ⌝ }
-{
-    why.number() as u32
-}
-
 // 0, or the refusal's number.
 pub fn verdict_number(found: Verdict) -> u32
     ensures { λ r. ⌜ r ≡ verdictNumber found ⌝ }
 {
     match found {
         Verdict::Fine => 0,
-        Verdict::Refused(why) => refusal_number(why),
+        Verdict::Refused(why) => lent::refused(why),
     }
 }
 
@@ -184,7 +177,7 @@ pub fn check_numbers(found: DiscCheck) -> [u32; 3]
     match found {
         DiscCheck::Passed => [0, 0, 0],
         DiscCheck::Offends { object, command } => [1, object, command],
-        DiscCheck::Refused(why) => [2, refusal_number(why), 0],
+        DiscCheck::Refused(why) => [2, lent::refused(why), 0],
     }
 }
 
@@ -195,6 +188,15 @@ pub fn session_numbers(s: Session) -> [u32; 6]
 {
     let pending = flag_number(s.pending);
     [s.entry, s.object, s.pc, s.odepth, s.tdepth, pending]
+}
+
+// The session's numbers into an array that has room for just them.
+pub fn put_session(s: Session, session: &mut [u32])
+    requires { ⌜ length (now session) ≡ 6 ⌝ }
+    ensures { λ _. ⌜ now (session .exit) ≡ sessionNumbers s ⌝ }
+{
+    let found = session_numbers(s);
+    lent::put(session, &found);
 }
 
 // Any number but 0 is pending.

@@ -7,7 +7,7 @@ returns-2 : tie.Need-returns-2
 returns-2 c = rw (c .before .found .given .1)
 
 returns-3 : tie.Need-returns-3
-returns-3 c = rw (c .before .before .found2 .given .1, c .refusal-number .ensures)
+returns-3 c = rw (c .before .before .found2 .given .1, c .refused .ensures)
 
 pub check-numbers-spec : {M : Type 1} → statement M
 check-numbers-spec =

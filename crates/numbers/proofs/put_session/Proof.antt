@@ -1,8 +1,8 @@
 -- The six numbers, copied. Assumes nothing.
 use mathlib.Core.Path.{_∙_}
 use borrow.Author.Needs.{needs}
-use Rattle.lent.proofs.put_session.Statement.{statement}
-use Rattle.lent.proofs.put_session.Tie as tie
+use Rattle.numbers.proofs.put_session.Statement.{statement}
+use Rattle.numbers.proofs.put_session.Tie as tie
 
 returns : tie.Need-returns
 returns c = c .before .before .put .ensures ∙ c .before .before .before .before .before .session-numbers .ensures

@@ -1,0 +1,1 @@
+// Computed examples of the register operations on words, in specs/; it has no code.
