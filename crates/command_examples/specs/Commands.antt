@@ -68,6 +68,11 @@ encoded : encodeOf move (room 13) ≡ encoding Fine (p2 ++ (0xFF ∷ []))
 unfolding over setOf operandOf commandOf bytesOf same encodable encodeOf
 encoded = refl
 
+-- An absent operand's word is ignored, and zero where it is written.
+ignored-word : encodeOf (commandOf (command 0x2181_0000 0x1_0001 7)) (room 12) ≡ encoding Fine (command 0x2181_0000 0x1_0001 0)
+unfolding over branchOf operandOf commandOf bytesOf same encodable encodeOf
+ignored-word = refl
+
 -- No room: eleven bytes stay as they are.
 eleven-bytes : encodeOf move (room 11) ≡ encoding (Refused refusal.NoRoom) (room 11)
 unfolding setOf operandOf commandOf bytesOf same encodable encodeOf
