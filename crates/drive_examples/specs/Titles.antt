@@ -18,7 +18,7 @@ use Rattle.nav_driver.specs.declared.Option32.the-variants.{None}
 use Rattle.nav_driver.specs.declared.DriveAnswer.{DriveAnswer}
 use Rattle.nav_driver.specs.declared.DriveAnswer.the-variants.{Refused, Drove}
 use Rattle.nav_driver.specs.declared.DriveOutcome.{DriveOutcome}
-use Rattle.nav_driver.specs.declared.DriveOutcome.the-variants.{Finished, Play, BadTitle, BadObject, TitleStackFull}
+use Rattle.nav_driver.specs.declared.DriveOutcome.the-variants.{BudgetExhausted, Finished, Play, BadTitle, BadObject, TitleStackFull}
 use Rattle.nav_driver.specs.declared.Start.{Start}
 use Rattle.nav_driver.specs.declared.Start.the-variants.{Entry, Here}
 use Rattle.nav_driver.specs.Rules.{Rooms, rooms, ended, titleValue, entered, jumped, called, returned, turnOf, titlesOf, badNumber, startOf, goOnOf, verdictFor, answerOf}
@@ -50,6 +50,12 @@ pub jump-to-title-65537 : drive 1 (Entry 65536) (rooms fresh (banks general stat
     ≡ leaves (Play (record { playlist = 5; «play_item» = None; mark = None })) (session 1 1 2 0 0 true) (banks (set general 5 16) (set status 4 1)) [] []
 unfolding opened
 jump-to-title-65537 = refl
+
+-- Starting the object of an entry clears the object frames.
+pub start-in-a-call : drive 0 (Entry 2) (rooms (session 65536 2 1 1 0 false) (banks general status) (0 ∷ 1 ∷ []) [])
+    ≡ leaves BudgetExhausted (session 2 2 1 0 0 false) (banks general (set status 4 2)) (0 ∷ 1 ∷ []) []
+unfolding opened
+start-in-a-call = refl
 
 -- Title stack full: nothing is pushed, pc stays past the call, not pending.
 pub full-title-stack : drive 2 (Entry 2) (rooms fresh (banks general status) [] (7 ∷ 7 ∷ 7 ∷ []))
