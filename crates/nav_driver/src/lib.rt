@@ -276,7 +276,7 @@ fn one_turn(
     let steps = b.steps;
     let objects = b.objects;
     let end = mobj_runner::drive(gpr, psr, frames, classes, file, places, s, steps, objects);
-    let count = movie_object::object_count(file);
+    let count = mobj_runner::object_count(file);
     let outcome = end.outcome;
     let next = what_follows(outcome);
     act(psr, titles, index, count, end.session, next, left)
