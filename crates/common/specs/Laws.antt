@@ -22,7 +22,8 @@ use Rattle.common.specs.declared.Half.{Half}
 use Rattle.common.specs.declared.Half.the-variants as half
 use Rattle.common.specs.declared.Word.{Word}
 use Rattle.common.specs.declared.Word.the-variants as word
-use Rattle.common.specs.Rules.{be2, be4, bytes2, bytes4, reader, seekOf, readU8, readU16, readU32, limit, headerOf}
+use Rattle.common.specs.declared.Written.the-variants.{Bytes}
+use Rattle.common.specs.Rules.{be2, be4, bytes2, bytes4, reader, seekOf, readU8, readU16, readU32, limit, headerOf, left}
 
 -- ---- numbers in a longer list
 
@@ -30,10 +31,6 @@ use Rattle.common.specs.Rules.{be2, be4, bytes2, bytes4, reader, seekOf,
 pub be2-skip : (p s : List ℕ) (n : ℕ) → be2 (p ++ s) (length p + n) ≡ be2 s n
 unfolding be2
 be2-skip p s n = simp (add-assoc, getD-append-add)
-
-pub be4-skip : (p s : List ℕ) (n : ℕ) → be4 (p ++ s) (length p + n) ≡ be4 s n
-unfolding be4
-be4-skip p s n = simp (add-assoc, getD-append-add)
 
 -- ---- a number that was written is read back
 
@@ -210,3 +207,8 @@ zeros-at s at n h z =
   where
     e : length (take n (drop at s)) ≡ n
     e = length-take-le n (drop at s) (omega (arith, length-drop at s))
+
+-- ---- what a writer leaves
+
+pub left-is : {out out′ : List ℕ} {n n′ : ℕ} → out ≡ out′ → n ≡ n′ → left out (Bytes n) ≡ left out′ (Bytes n′)
+left-is e f = cc

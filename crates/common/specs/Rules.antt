@@ -5,6 +5,7 @@ use mathlib.Core.List.{List, [], _∷_}
 use Prim.Native.Nat.{ℕ, _+_, _*_, _/_, _%_}
 use lib.Dec.{leb, ltb, eqb}
 use lib.ListN.{length, getD}
+use Rattle.laws.specs.Over.{over}
 use Rattle.error.specs.declared.Refusal.the-variants.{TooLong, BadHeader, BadBody}
 use Rattle.error.specs.declared.Verdict.{Verdict}
 use Rattle.error.specs.declared.Verdict.the-variants as verdict
@@ -17,6 +18,8 @@ use Rattle.common.specs.declared.Half.{Half}
 use Rattle.common.specs.declared.Half.the-variants as half
 use Rattle.common.specs.declared.Word.{Word}
 use Rattle.common.specs.declared.Word.the-variants as word
+use Rattle.common.specs.declared.Written.{Written}
+use Rattle.common.specs.declared.Written.the-variants as written
 
 -- The big-endian number of the two, or of the four, bytes at a place; bytes past the end count as 0.
 unfoldable pub be2 : List ℕ → ℕ → ℕ
@@ -59,3 +62,16 @@ headerOf kind s =
     cond (ltb limit (length s)) (verdict.Refused TooLong)
     (cond (ltb (length s) 40) (verdict.Refused BadHeader)
     (cond (eqb (be4 s 0) kind) verdict.Fine (verdict.Refused BadHeader)))
+
+-- What a writer leaves: its answer beside the lent buffer.
+pub record Left : Type 0 where
+  pub out : List ℕ
+  pub answer : Written
+
+abbrev pub left : List ℕ → Written → Left
+left out answer = record { out = out; answer = answer }
+
+-- The file from place 0, and the rest as it was; on a refusal all of it as it was.
+abbrev pub leftAs : Verdict → List ℕ → ℕ → List ℕ → Left
+leftAs verdict.Fine file size out = left (over out 0 file) (written.Bytes size)
+leftAs (verdict.Refused r) file size out = left out (written.Refused r)

@@ -37,6 +37,12 @@ pub enum Word {
     Refused(Refusal),
 }
 
+// What a writer of a file answers: how many bytes it wrote, or why none.
+pub enum Written {
+    Bytes(usize),
+    Refused(Refusal),
+}
+
 impl Reader {
     pub fn new() -> Self
         ensures { λ r. ⌜ r ≡ reader 0 ⌝ }

@@ -1,6 +1,6 @@
 -- Laws of the writer: the lengths, what an accepted record has, and what the calls leave. Assumes nothing.
 use mathlib.Core.Path.{_≡_, refl, sym, ap, _∙_}
-use mathlib.Core.Bool.{Bool, true, false, cond, not, _&&_}
+use mathlib.Core.Bool.{Bool, true, false, cond, not}
 use mathlib.Core.List.{List, [], _∷_, _++_}
 use Prim.Native.Nat.{ℕ, zero, suc, _+_, _*_, _-_, _≤_, _<_}
 use native.Mathlib.Nat.{add-sub-cancel-left}
@@ -9,20 +9,18 @@ use lib.Dec.{eqb, leb, ltb}
 use lib.ListN.{length, take, drop, set, replicate, length-append, length-drop}
 use lib.Seq.{length-take-le}
 use borrow.Author.Tests.{lt-ltb, le-ltb, ltb-true, ltb-false, le-leb, leb-true, eq-eqb, ne-eqb, eqb-true, not-false}
-use Rattle.laws.specs.Cases.{either-way}
+use Rattle.laws.specs.Cases.{both, either-way}
 use Rattle.laws.specs.Firsts.{all, all-tells, blocks, blocks-suc}
 use Rattle.laws.specs.Over.{over, over-next, store4}
 use Rattle.common.specs.Rules.{bytes2, bytes4, limit}
 use Rattle.common.specs.Laws.{length-bytes2, length-bytes4}
 use Rattle.utf8.specs.Rules.{isUtf8}
-use Rattle.error.specs.Rules.{firstOf, refusedIf}
-use Rattle.error.specs.declared.Refusal.{Refusal}
+use Rattle.error.specs.Laws.{both-fine, not-refused}
+use Rattle.error.specs.Rules.{refusedIf}
 use Rattle.error.specs.declared.Refusal.the-variants.{NoRoom, NotEncodable}
-use Rattle.error.specs.declared.Verdict.{Verdict}
-use Rattle.error.specs.declared.Verdict.the-variants.{Fine, Refused}
+use Rattle.error.specs.declared.Verdict.the-variants.{Fine}
 use Rattle.index_bdmv.specs.declared.AppInfoBdmv.{AppInfoBdmv}
-use Rattle.index_bdmv_write.specs.Rules.{Entries, kindOf, playbackOf, objectOf, nameGiven, titlesOf, tailBytes, entryBytes, entryOfRecord, appBytes, headBytes, specialBytes, titleBytes, sizeOf, fileOf, appFits, kindFits, entryFits, lengthsFit, encodable, writeVerdict, left}
-use Rattle.index_bdmv_write.specs.declared.Written.the-variants.{Bytes}
+use Rattle.index_bdmv_write.specs.Rules.{Entries, kindOf, playbackOf, objectOf, nameGiven, titlesOf, tailBytes, entryBytes, entryOfRecord, appBytes, headBytes, specialBytes, titleBytes, sizeOf, fileOf, appFits, kindFits, entryFits, lengthsFit, encodable, writeVerdict}
 
 -- ---- lengths
 
@@ -36,7 +34,7 @@ length-tailBytes kind object name h =
     either-way (λ (l : List ℕ). length l ≡ 8) (eqb kind 1) {x = bytes2 object ++ replicate 6 0} {y = name ++ replicate 3 0} refl
     (length-append name (replicate 3 0) ∙ ap (λ (n : ℕ). n + 3) h)
 
-pub length-entryBytes : (kind playback object : ℕ) (name : List ℕ) → length name ≡ 5 → length (entryBytes kind playback object name) ≡ 12
+length-entryBytes : (kind playback object : ℕ) (name : List ℕ) → length name ≡ 5 → length (entryBytes kind playback object name) ≡ 12
 unfolding entryBytes
 length-entryBytes kind playback object name h = omega (arith, length-tailBytes kind object name h)
 
@@ -75,10 +73,6 @@ module _ (r : Entries) (long : length (r .names) ≡ 5 * length (r .kinds)) wher
 
 -- ---- what an accepted record has
 
-and-yes : (a b : Bool) → a && b ≡ true → (a ≡ true) × (b ≡ true)
-and-yes true b e = (refl, e)
-and-yes false b e = let z : _≡_ {A = ℕ} 0 1 = cc in absurd (omega arith)
-
 pub record AppFits (a : AppInfoBdmv) : Type 0 where
   pub output : a .«initial_output_mode_preference» < 2
   pub content : a .«content_exist_flag» < 2
@@ -92,14 +86,14 @@ pub record Lengths (r : Entries) : Type 0 where
   pub objects : length (r .objects) ≡ length (r .kinds)
   pub names : length (r .names) ≡ 5 * length (r .kinds)
 
-pub app-tells : (a : AppInfoBdmv) → appFits a ≡ true → AppFits a
+app-tells : (a : AppInfoBdmv) → appFits a ≡ true → AppFits a
 app-tells a e =
-    let p1 = and-yes (ltb (a .«initial_output_mode_preference») 2) _ e in
-    let p2 = and-yes (ltb (a .«content_exist_flag») 2) _ (p1 .1) in
-    let p3 = and-yes (ltb (a .«video_format») 16) _ (p2 .1) in
+    let p1 = both (ltb (a .«initial_output_mode_preference») 2) _ e in
+    let p2 = both (ltb (a .«content_exist_flag») 2) _ (p1 .1) in
+    let p3 = both (ltb (a .«video_format») 16) _ (p2 .1) in
     record { output = ltb-true _ _ (p1 .0); content = ltb-true _ _ (p2 .0); video = ltb-true _ _ (p3 .0); rate = ltb-true _ _ (p3 .1) }
 
-pub app-made : (a : AppInfoBdmv) → AppFits a → appFits a ≡ true
+app-made : (a : AppInfoBdmv) → AppFits a → appFits a ≡ true
 app-made a f = simp (lt-ltb _ _ (f .output), lt-ltb _ _ (f .content), lt-ltb _ _ (f .video), lt-ltb _ _ (f .rate))
 
 pub record Good (r : Entries) : Type 0 where
@@ -114,10 +108,10 @@ module _ (r : Entries) where
   pub lengths-tell : lengthsFit (length (r .kinds)) (length (r .playbacks)) (length (r .objects)) (length (r .names)) ≡ true → Lengths r
   unfolding lengthsFit
   lengths-tell e =
-      let p1 = and-yes (leb 2 (length (r .kinds))) _ e in
-      let p2 = and-yes (leb (length (r .kinds)) 65537) _ (p1 .1) in
-      let p3 = and-yes (eqb (length (r .playbacks)) (length (r .kinds))) _ (p2 .1) in
-      let p4 = and-yes (eqb (length (r .objects)) (length (r .kinds))) _ (p3 .1) in
+      let p1 = both (leb 2 (length (r .kinds))) _ e in
+      let p2 = both (leb (length (r .kinds)) 65537) _ (p1 .1) in
+      let p3 = both (eqb (length (r .playbacks)) (length (r .kinds))) _ (p2 .1) in
+      let p4 = both (eqb (length (r .objects)) (length (r .kinds))) _ (p3 .1) in
       record {
         two = leb-true _ _ (p1 .0);
         few = leb-true _ _ (p2 .0);
@@ -133,8 +127,8 @@ module _ (r : Entries) where
   pub encodable-tells : (app : AppInfoBdmv) → encodable app r ≡ true → Encodable app r
   unfolding encodable
   encodable-tells app e =
-      let p1 = and-yes (appFits app) _ e in
-      let p2 = and-yes (lengthsFit (length (r .kinds)) (length (r .playbacks)) (length (r .objects)) (length (r .names))) _ (p1 .1) in
+      let p1 = both (appFits app) _ e in
+      let p2 = both (lengthsFit (length (r .kinds)) (length (r .playbacks)) (length (r .objects)) (length (r .names))) _ (p1 .1) in
       record { app-fits = app-tells app (p1 .0); good = record { lengths = lengths-tell (p2 .0); entries = p2 .1 } }
 
   pub encodable-made : (app : AppInfoBdmv) → Encodable app r → encodable app r ≡ true
@@ -147,13 +141,13 @@ pub data Kind (kind : ℕ) (name : List ℕ) : Type 0 where
   bdj : kind ≡ 2 → isUtf8 name ≡ true → Kind kind name
 
 module _ (kind playback : ℕ) (name : List ℕ) where
-  pub fits-playback : kindFits kind playback name ≡ true → playback < 4
+  fits-playback : kindFits kind playback name ≡ true → playback < 4
   unfolding kindFits
-  fits-playback e = ltb-true _ _ (and-yes (ltb playback 4) _ e .0)
+  fits-playback e = ltb-true _ _ (both (ltb playback 4) _ e .0)
 
-  pub fits-kind : kindFits kind playback name ≡ true → Kind kind name
+  fits-kind : kindFits kind playback name ≡ true → Kind kind name
   unfolding kindFits
-  fits-kind e = go (eqb kind 1) refl (eqb kind 2) refl (and-yes (ltb playback 4) _ e .1)
+  fits-kind e = go (eqb kind 1) refl (eqb kind 2) refl (both (ltb playback 4) _ e .1)
     where
       go : (a : Bool) → eqb kind 1 ≡ a → (b : Bool) → eqb kind 2 ≡ b → cond a true (cond b (isUtf8 name) false) ≡ true → Kind kind name
       go true qa b qb t = hdmv (eqb-true _ _ qa)
@@ -184,20 +178,12 @@ pub record Accepted (app : AppInfoBdmv) (r : Entries) (room : ℕ) : Type 0 wher
   pub short : sizeOf r ≤ limit
   pub fits : sizeOf r ≤ room
 
-first-fine : (a b : Verdict) → firstOf a b ≡ Fine → (a ≡ Fine) × (b ≡ Fine)
-first-fine Fine b e = (refl, e)
-first-fine (Refused r) b e = let z : _≡_ {A = ℕ} 0 1 = cc in absurd (omega arith)
-
-not-refused : (t : Bool) (r : Refusal) → refusedIf t r ≡ Fine → t ≡ false
-not-refused true r e = let z : _≡_ {A = ℕ} 0 1 = cc in absurd (omega arith)
-not-refused false r e = refl
-
 module _ (app : AppInfoBdmv) (r : Entries) (room : ℕ) where
   pub accepted : writeVerdict app r room ≡ Fine → Accepted app r room
   unfolding writeVerdict
   accepted e =
-      let p1 = first-fine (refusedIf (not (encodable app r)) NotEncodable) _ e in
-      let p2 = first-fine (refusedIf (ltb limit (sizeOf r)) NoRoom) _ (p1 .1) in
+      let p1 = both-fine (refusedIf (not (encodable app r)) NotEncodable) _ e in
+      let p2 = both-fine (refusedIf (ltb limit (sizeOf r)) NoRoom) _ (p1 .1) in
       record {
         fields = encodable-tells r app (not-false _ (not-refused _ NotEncodable (p1 .0)));
         short = ltb-false _ _ (not-refused _ NoRoom (p2 .0));
@@ -278,9 +264,6 @@ file-steps l m1 m2 m3 version app r a e1 e2 e3 =
     let hs = length-append (headBytes version app) (specialBytes r) in
     over-next l m2 m3 0 _ _ 108 (over-next l m1 m2 0 _ _ 78 e1 e2 (omega (arith, h)) (omega (arith, h, s, a .fits))) e3
     (omega (arith, h, s, hs)) (omega (arith, h, s, t, hs, a .fits))
-
-pub left-is : {out out′ : List ℕ} {n n′ : ℕ} → out ≡ out′ → n ≡ n′ → left out (Bytes n) ≡ left out′ (Bytes n′)
-left-is e f = cc
 
 -- the part of the names that an entry lends
 pub name-part : (names : List ℕ) (k : ℕ) → take (5 * k + 5 - 5 * k) (drop (5 * k) names) ≡ nameGiven names k

@@ -7,7 +7,7 @@ use lib.Dec.{eqb, leb, ltb}
 use lib.ListN.{length, getD, take, drop, replicate}
 use Rattle.laws.specs.Firsts.{all, blocks}
 use Rattle.laws.specs.Over.{over}
-use Rattle.common.specs.Rules.{be4, bytes2, bytes4, limit}
+use Rattle.common.specs.Rules.{be4, bytes2, bytes4, limit, Left, leftAs}
 use Rattle.utf8.specs.Rules.{isUtf8}
 use Rattle.error.specs.Rules.{firstOf, refusedIf}
 use Rattle.error.specs.declared.Refusal.the-variants.{NoRoom, NotEncodable}
@@ -20,8 +20,6 @@ use Rattle.index_bdmv.specs.declared.IndexBdmv.{IndexBdmv}
 use Rattle.index_bdmv.specs.declared.IndexEntry.the-variants as entry
 use Rattle.index_bdmv.specs.declared.Parsed.the-variants as parsed
 use Rattle.index_bdmv.specs.Rules.{indx, startOf, titleCount, kindAt, verdictOf, parseOf, entryOf, nameOf}
-use Rattle.index_bdmv_write.specs.declared.Written.{Written}
-use Rattle.index_bdmv_write.specs.declared.Written.the-variants as written
 
 -- A record is a version, an AppInfo, and entries: first playback, top menu, then the titles.
 -- For each entry there is a type (1 HDMV, 2 BD-J), a playback type, an object and a name of five bytes, of which its type uses one.
@@ -122,19 +120,6 @@ writeVerdict app r room =
     (refusedIf (ltb room (sizeOf r)) NoRoom))
 
 -- ---- what the writer leaves
-
--- The answer beside the lent buffer.
-pub record Left : Type 0 where
-  pub out : List ℕ
-  pub answer : Written
-
-abbrev pub left : List ℕ → Written → Left
-left out answer = record { out = out; answer = answer }
-
--- The file from place 0, and the rest as it was; on a refusal all of it as it was.
-abbrev pub leftAs : Verdict → List ℕ → ℕ → List ℕ → Left
-leftAs verdict.Fine file size out = left (over out 0 file) (written.Bytes size)
-leftAs (verdict.Refused r) file size out = left out (written.Refused r)
 
 unfoldable pub writeOf : ℕ → AppInfoBdmv → Entries → List ℕ → Left
 writeOf version app r out = leftAs (writeVerdict app r (length out)) (fileOf version app r) (sizeOf r) out

@@ -1,5 +1,6 @@
 // Writing index.bdmv into a lent buffer (the Rust's `IndexBdmv::encode`).
 use common::LIMIT;
+use common::Written;
 use common::put_bytes;
 use common::put_zeros;
 use common::put16;
@@ -14,13 +15,9 @@ ghost use lib.ListN.{length, take, drop};
 ghost use Rattle.laws.specs.Firsts.{all, blocks};
 ghost use Rattle.laws.specs.Over.{over};
 ghost use Rattle.error.specs.declared.Verdict.the-variants.{Fine};
-ghost use Rattle.index_bdmv_write.specs.Rules.{entries, tailBytes, entryBytes, entryOfRecord, appBytes, headBytes, specialBytes, titleBytes, titlesOf, sizeOf, fileOf, appFits, kindFits, entryFits, lengthsFit, encodable, writeVerdict, left, leftAs, writeOf, WritingThenReading, ReadingThenWriting};
+ghost use Rattle.common.specs.Rules.{left, leftAs};
+ghost use Rattle.index_bdmv_write.specs.Rules.{entries, tailBytes, entryBytes, entryOfRecord, appBytes, headBytes, specialBytes, titleBytes, titlesOf, sizeOf, fileOf, appFits, kindFits, entryFits, lengthsFit, encodable, writeVerdict, writeOf, WritingThenReading, ReadingThenWriting};
 ghost use Rattle.index_bdmv_write.specs.Laws.{AppFits, Good, Accepted};
-
-pub enum Written {
-    Bytes(usize),
-    Refused(Refusal),
-}
 
 // The file of a record: its version, its AppInfo, and for each entry (first playback, top menu, the titles) a type, 1 HDMV or 2 BD-J,
 // a playback type, an object and a name of five bytes, of which its type uses one.

@@ -3,8 +3,10 @@
 use mathlib.Core.Bool.{cond, _&&_}
 use mathlib.Core.List.{List, [], _∷_}
 use Prim.Native.Nat.{ℕ, _+_}
-use lib.Dec.{eqb}
 use lib.ListN.{length, getD, replicate}
+use Rattle.common.specs.Rules.{Left}
+use Rattle.common.specs.declared.Written.{Written}
+use Rattle.common.specs.declared.Written.the-variants as written
 use Rattle.error.specs.Rules.{numberOf}
 use Rattle.error.specs.declared.Refusal.{Refusal}
 use Rattle.error.specs.declared.Refusal.the-variants.{BadBuffer, NotEncodable}
@@ -22,12 +24,9 @@ use Rattle.movie_object.specs.declared.MovieObject.{MovieObject}
 use Rattle.movie_object.specs.declared.Object.{Object}
 use Rattle.movie_object.specs.declared.Object.the-variants as object
 use Rattle.movie_object_list.specs.Rules.{listObject, listFile}
-use Rattle.movie_object_write.specs.Rules.{Left as ObjectsLeft, writeOf as writeObjects}
-use Rattle.movie_object_write.specs.declared.Written.{Written as ObjectsWritten}
-use Rattle.movie_object_write.specs.declared.Written.the-variants as objectsWritten
+use Rattle.movie_object_write.specs.Rules.{writeOf as writeObjects}
 use Rattle.index_bdmv.specs.Rules.{parseOf as parseIndex, entryOf, nameOf, resolveMovieObject}
 use Rattle.index_bdmv.specs.declared.AppInfoBdmv.{AppInfoBdmv}
-use Rattle.index_bdmv.specs.declared.IndexBdmv.{IndexBdmv}
 use Rattle.index_bdmv.specs.declared.Parsed.{Parsed as IndexParsed}
 use Rattle.index_bdmv.specs.declared.Parsed.the-variants as index
 use Rattle.index_bdmv.specs.declared.IndexObjectType.{IndexObjectType}
@@ -38,9 +37,7 @@ use Rattle.index_bdmv.specs.declared.Lead.{Lead}
 use Rattle.index_bdmv.specs.declared.Lead.the-variants as lead
 use Rattle.index_bdmv.specs.declared.Resolved.{Resolved}
 use Rattle.index_bdmv.specs.declared.Resolved.the-variants as resolved
-use Rattle.index_bdmv_write.specs.Rules.{Entries, Left as IndexLeft, writeOf as writeIndex}
-use Rattle.index_bdmv_write.specs.declared.Written.{Written as IndexWritten}
-use Rattle.index_bdmv_write.specs.declared.Written.the-variants as indexWritten
+use Rattle.index_bdmv_write.specs.Rules.{Entries, writeOf as writeIndex}
 use Rattle.registers.specs.declared.Read.{Read}
 use Rattle.registers.specs.declared.Read.the-variants as read
 use Rattle.registers.specs.Rules.{bankOf, readOf, putOf}
@@ -90,6 +87,21 @@ measured l t = record { out = l; told = t }
 abbrev pub unmeasured : Refusal → List ℕ → ℕ → Measured
 unmeasured r l k = measured l (size (numberOf r) k)
 
+-- A listing, and a written file.
+abbrev pub textBy : Listed → ℕ → Length
+textBy (listed.At n) k = size 0 n
+textBy (listed.Refused r) k = size (numberOf r) k
+
+abbrev pub text : Listing → ℕ → Measured
+text g k = measured (g .held) (textBy (g .answer) k)
+
+abbrev pub fileBy : Written → ℕ → Length
+fileBy (written.Bytes n) k = size 0 n
+fileBy (written.Refused r) k = size (numberOf r) k
+
+abbrev pub file : Left → ℕ → Measured
+file f k = measured (f .out) (fileBy (f .answer) k)
+
 -- ---- one command
 
 unfoldable pub decodeCall : List ℕ → List ℕ → Handed
@@ -101,13 +113,6 @@ coded e = handed (verdictNumber (e .answer)) (e .held)
 unfoldable pub encodeCall : List ℕ → List ℕ → Handed
 encodeCall l out =
     cond (sized 13 l) (cond (isCommand l) (coded (encodeOf (commandNamed l) out)) (refused NotEncodable out)) (refused BadBuffer out)
-
-abbrev pub textBy : Listed → ℕ → Length
-textBy (listed.At n) k = size 0 n
-textBy (listed.Refused r) k = size (numberOf r) k
-
-abbrev pub text : Listing → ℕ → Measured
-text g k = measured (g .held) (textBy (g .answer) k)
 
 unfoldable pub listCommandCall : List ℕ → List ℕ → ℕ → Measured
 listCommandCall command out k =
@@ -140,15 +145,8 @@ listObjectCall file n out k = text (listObject file n out 0) k
 unfoldable pub listCall : List ℕ → List ℕ → ℕ → Measured
 listCall file out k = text (listFile file out 0) k
 
-abbrev pub objectsFileBy : ObjectsWritten → ℕ → Length
-objectsFileBy (objectsWritten.Bytes n) k = size 0 n
-objectsFileBy (objectsWritten.Refused r) k = size (numberOf r) k
-
-abbrev pub objectsFile : ObjectsLeft → ℕ → Measured
-objectsFile f k = measured (f .out) (objectsFileBy (f .answer) k)
-
 unfoldable pub writeObjectsCall : ℕ → List ℕ → List ℕ → List ℕ → List ℕ → ℕ → Measured
-writeObjectsCall version flags counts commands out k = objectsFile (writeObjects version flags counts commands out) k
+writeObjectsCall version flags counts commands out k = file (writeObjects version flags counts commands out) k
 
 -- ---- index.bdmv
 
@@ -214,16 +212,9 @@ appOf a =
       «frame_rate» = getD a 3 0;
     }
 
-abbrev pub indexFileBy : IndexWritten → ℕ → Length
-indexFileBy (indexWritten.Bytes n) k = size 0 n
-indexFileBy (indexWritten.Refused r) k = size (numberOf r) k
-
-abbrev pub indexFile : IndexLeft → ℕ → Measured
-indexFile f k = measured (f .out) (indexFileBy (f .answer) k)
-
 unfoldable pub writeIndexCall : ℕ → List ℕ → Entries → List ℕ → ℕ → Measured
 writeIndexCall version app r out k =
-    cond (sized 4 app) (indexFile (writeIndex version (appOf app) r out) k) (unmeasured BadBuffer out k)
+    cond (sized 4 app) (file (writeIndex version (appOf app) r out) k) (unmeasured BadBuffer out k)
 
 -- ---- registers, sessions and budgets
 

@@ -2,31 +2,7 @@
 use super::hand;
 use error::Refusal;
 ghost use mathlib.Core.Path.{_≡_};
-ghost use Prim.Native.Nat.{_≤_};
-ghost use lib.ListN.{length};
-ghost use Rattle.vm.specs.Rules.{fetched};
 ghost use Rattle.mescjadro.specs.Rules.{handed, size, measured, decodeCall, encodeCall, listCommandCall};
-
-// The first twelve bytes.
-fn twelve(bytes: &[u8]) -> [u8; 12]
-    requires { ⌜ 12 ≤ length (now bytes) ⌝ }
-    ensures { λ r. ⌜ r ≡ fetched (now (bytes .entry)) 0 ⌝ }
-{
-    [
-        bytes[0],
-        bytes[1],
-        bytes[2],
-        bytes[3],
-        bytes[4],
-        bytes[5],
-        bytes[6],
-        bytes[7],
-        bytes[8],
-        bytes[9],
-        bytes[10],
-        bytes[11],
-    ]
-}
 
 // The thirteen numbers of twelve bytes.
 #[no_mangle]
@@ -39,7 +15,7 @@ pub extern "C" fn mescjadro_decode(command: &[u8], result: &mut [u32]) -> u32
     if command.len() != 12 {
         return lent::refused(Refusal::BadBuffer);
     }
-    let bytes = twelve(command);
+    let bytes = vm::fetch(command, 0);
     let found = nav_numbers::numbers_of(&bytes);
     lent::put(result, &found);
     0

@@ -2,7 +2,6 @@
 use disc_check::DiscCheck;
 use error::Refusal;
 use mobj_runner::RunAnswer;
-use mobj_runner::RunEnd;
 ghost use mathlib.Core.Path.{_≡_};
 ghost use lib.ListN.{length};
 ghost use Rattle.vm.specs.Rules.{banks};

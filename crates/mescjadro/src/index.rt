@@ -1,4 +1,5 @@
 // index.bdmv: read, resolved, written.
+use super::hand;
 use common::byte_at;
 use error::Refusal;
 use index_bdmv::AppInfoBdmv;
@@ -8,11 +9,10 @@ use index_bdmv::IndexObjectType;
 use index_bdmv::Lead;
 use index_bdmv::Parsed;
 use index_bdmv::Resolved;
-use index_bdmv_write::Written;
 ghost use mathlib.Core.Path.{_≡_};
 ghost use lib.ListN.{length};
 ghost use Rattle.index_bdmv_write.specs.Rules.{entries};
-ghost use Rattle.mescjadro.specs.Rules.{handed, size, measured, indexNumbers, indexCall, entryNumbers, typeNumbers, entryCall, leadNumbers, resolveCall, appOf, indexFileBy, writeIndexCall};
+ghost use Rattle.mescjadro.specs.Rules.{handed, size, measured, indexNumbers, indexCall, entryNumbers, typeNumbers, entryCall, leadNumbers, resolveCall, appOf, writeIndexCall};
 
 fn index_numbers(version: u32, app: AppInfoBdmv, titles: u16) -> [u32; 6]
     ensures { λ r. ⌜ r ≡ indexNumbers version app titles ⌝ }
@@ -150,18 +150,6 @@ fn app_of(app: &[u8]) -> AppInfoBdmv
     }
 }
 
-fn hand_file(written: Written, count: &mut usize) -> u32
-    ensures { λ r. ⌜ size r (now (count .exit)) ≡ indexFileBy written (now (count .entry)) ⌝ }
-{
-    match written {
-        Written::Refused(why) => lent::refused(why),
-        Written::Bytes(bytes) => {
-            *count = bytes;
-            0
-        }
-    }
-}
-
 // The file of a record.
 #[no_mangle]
 pub extern "C" fn mescjadro_write_index(
@@ -189,5 +177,5 @@ pub extern "C" fn mescjadro_write_index(
         names,
         out,
     );
-    hand_file(written, count)
+    hand::hand_file(written, count)
 }

@@ -5,11 +5,10 @@ use movie_object::MovieObject;
 use movie_object::MovieObjects;
 use movie_object::Object;
 use movie_object::Parsed;
-use movie_object_write::Written;
 ghost use mathlib.Core.Path.{_≡_};
 ghost use Prim.Native.Nat.{_≤_};
 ghost use lib.ListN.{length};
-ghost use Rattle.mescjadro.specs.Rules.{handed, size, measured, objectsCall, objectNumbers, objectCall, listObjectCall, listCall, objectsFileBy, writeObjectsCall};
+ghost use Rattle.mescjadro.specs.Rules.{handed, size, measured, objectsCall, objectNumbers, objectCall, listObjectCall, listCall, writeObjectsCall};
 
 // What a file holds.
 #[no_mangle]
@@ -88,18 +87,6 @@ pub extern "C" fn mescjadro_list(file: &[u8], out: &mut [u8], count: &mut usize)
     hand::hand_text(listed, count)
 }
 
-fn hand_file(written: Written, count: &mut usize) -> u32
-    ensures { λ r. ⌜ size r (now (count .exit)) ≡ objectsFileBy written (now (count .entry)) ⌝ }
-{
-    match written {
-        Written::Refused(why) => lent::refused(why),
-        Written::Bytes(bytes) => {
-            *count = bytes;
-            0
-        }
-    }
-}
-
 // The file of a record.
 #[no_mangle]
 pub extern "C" fn mescjadro_write_objects(
@@ -114,5 +101,5 @@ pub extern "C" fn mescjadro_write_objects(
         ≡ writeObjectsCall version (now (flags .entry)) (now (counts .entry)) (now (commands .entry)) (now (out .entry)) (now (count .entry)) ⌝ }
 {
     let written = movie_object_write::write(version, flags, counts, commands, out);
-    hand_file(written, count)
+    hand::hand_file(written, count)
 }

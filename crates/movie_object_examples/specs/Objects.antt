@@ -5,14 +5,14 @@ use Prim.Native.Nat.{ℕ}
 use lib.ListN.{set, take, replicate}
 use Rattle.laws.specs.Firsts.{sum, all, allBelow, blocks}
 use Rattle.laws.specs.Over.{over}
-use Rattle.common.specs.Rules.{be2, be4, bytes2, bytes4, headerOf}
+use Rattle.common.specs.Rules.{be2, be4, bytes2, bytes4, headerOf, left}
 use Rattle.error.specs.declared.Refusal.the-variants.{BadHeader, BadBody, NoRoom, NotEncodable, NotAnEntry}
 use Rattle.error.specs.declared.Verdict.the-variants.{Fine, Refused}
 use Rattle.movie_object.specs.declared.Object.the-variants as object
 use Rattle.movie_object.specs.declared.Parsed.the-variants as parsed
 use Rattle.movie_object.specs.Rules.{countOf, next, place, bodyOf, verdictOf, commandCount, commandsOf, parseOf, headAt, objectOf, partOf}
-use Rattle.movie_object_write.specs.declared.Written.the-variants as written
-use Rattle.movie_object_write.specs.Rules.{cmdsAt, objectBytes, object as objectWritten, headBytes, sizeOf, fileOf, encodable, writeVerdict, left, writeOf}
+use Rattle.common.specs.declared.Written.the-variants as written
+use Rattle.movie_object_write.specs.Rules.{cmdsAt, objectBytes, object as objectWritten, headBytes, sizeOf, fileOf, encodable, writeVerdict, writeOf}
 
 -- what the examples compute with
 opened : Unit {0}

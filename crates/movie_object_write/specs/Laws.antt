@@ -1,6 +1,6 @@
 -- Laws of the writer: the lengths, what an accepted record has, and what each verdict leaves. Assumes nothing.
 use mathlib.Core.Path.{_≡_, refl, sym, ap, _∙_}
-use mathlib.Core.Bool.{Bool, true, false, not, _&&_}
+use mathlib.Core.Bool.{true, not}
 use mathlib.Core.List.{List, [], _∷_}
 use Prim.Native.Nat.{ℕ, zero, suc, _+_, _*_, _-_, _%_, _≤_, _<_}
 use native.Mathlib.Nat.{add-sub-cancel-left}
@@ -10,16 +10,15 @@ use lib.Dec.{eqb, leb, ltb}
 use lib.ListN.{length, getD, take, drop, set, replicate, length-append, length-drop}
 use lib.Seq.{length-take-le}
 use borrow.Author.Tests.{le-ltb, ltb-false, le-leb, leb-true, eq-eqb, eqb-true, not-false}
+use Rattle.laws.specs.Cases.{both}
 use Rattle.laws.specs.Firsts.{sum, sum-suc, sum-mono, allBelow, below-tells, blocks, blocks-suc}
 use Rattle.laws.specs.Over.{over, over-next, store2}
 use Rattle.common.specs.Rules.{bytes2, bytes4, limit}
-use Rattle.error.specs.Rules.{firstOf, refusedIf}
-use Rattle.error.specs.declared.Refusal.{Refusal}
+use Rattle.error.specs.Laws.{both-fine, not-refused}
+use Rattle.error.specs.Rules.{refusedIf}
 use Rattle.error.specs.declared.Refusal.the-variants.{NoRoom, BadBuffer, NotEncodable}
-use Rattle.error.specs.declared.Verdict.{Verdict}
-use Rattle.error.specs.declared.Verdict.the-variants.{Fine, Refused}
-use Rattle.movie_object_write.specs.Rules.{resumeAt, menuAt, titleAt, flagByte, cmdsAt, objectBytes, object, headBytes, sizeOf, fileOf, encodable, writeVerdict, left}
-use Rattle.movie_object_write.specs.declared.Written.the-variants.{Bytes}
+use Rattle.error.specs.declared.Verdict.the-variants.{Fine}
+use Rattle.movie_object_write.specs.Rules.{resumeAt, menuAt, titleAt, flagByte, cmdsAt, objectBytes, object, headBytes, sizeOf, fileOf, encodable, writeVerdict}
 
 -- ---- lengths
 
@@ -27,7 +26,7 @@ pub length-headBytes : (version n stated : ℕ) → length (headBytes version n 
 unfolding headBytes bytes4 bytes2
 length-headBytes version n stated = refl
 
-pub length-objectBytes : (bits c : ℕ) (v : List ℕ) → length (objectBytes bits c v) ≡ 4 + length v
+length-objectBytes : (bits c : ℕ) (v : List ℕ) → length (objectBytes bits c v) ≡ 4 + length v
 unfolding objectBytes bytes2
 length-objectBytes bits c v = omega arith
 
@@ -37,7 +36,7 @@ module _ (flags counts commands : List ℕ) where
   length-cmdsAt k h =
       length-take-le (12 * getD counts k 0) (drop (12 * sum counts k) commands) (omega (arith, sum-suc counts k, length-drop (12 * sum counts k) commands))
 
-  pub length-object : (k : ℕ) → 12 * sum counts (k + 1) ≤ length commands → length (object flags counts commands k) ≡ 4 + 12 * getD counts k 0
+  length-object : (k : ℕ) → 12 * sum counts (k + 1) ≤ length commands → length (object flags counts commands k) ≡ 4 + 12 * getD counts k 0
   unfolding object
   length-object k h =
       length-objectBytes (flagByte (resumeAt flags k) (menuAt flags k) (titleAt flags k)) (getD counts k 0) (cmdsAt counts commands k)
@@ -59,10 +58,6 @@ pub record Encodable (flags counts commands : List ℕ) : Type 0 where
   pub small : allBelow 65536 counts (length counts) ≡ true
   pub whole : 12 * sum counts (length counts) ≡ length commands
 
-and-yes : (a b : Bool) → a && b ≡ true → (a ≡ true) × (b ≡ true)
-and-yes true b e = (refl, e)
-and-yes false b e = let z : _≡_ {A = ℕ} 0 1 = cc in absurd (omega arith)
-
 sum-below : (l : List ℕ) (n : ℕ) → ((k : ℕ) → k < n → getD l k 0 < 65536) → sum l n ≤ 65536 * n
 unfolding sum
 sum-below l zero h = omega arith
@@ -72,10 +67,10 @@ module _ (flags counts commands : List ℕ) where
   pub encodable-tells : encodable flags counts commands ≡ true → Encodable flags counts commands
   unfolding encodable
   encodable-tells e =
-      let p1 = and-yes (leb (length counts) 65535) _ e in
-      let p2 = and-yes (eqb (length flags) (3 * length counts)) _ (p1 .1) in
-      let p3 = and-yes (allBelow 2 flags (length flags)) _ (p2 .1) in
-      let p4 = and-yes (allBelow 65536 counts (length counts)) _ (p3 .1) in
+      let p1 = both (leb (length counts) 65535) _ e in
+      let p2 = both (eqb (length flags) (3 * length counts)) _ (p1 .1) in
+      let p3 = both (allBelow 2 flags (length flags)) _ (p2 .1) in
+      let p4 = both (allBelow 65536 counts (length counts)) _ (p3 .1) in
       record { few = leb-true _ _ (p1 .0); three = eqb-true _ _ (p2 .0); bits = p3 .0; small = p4 .0; whole = eqb-true _ _ (p4 .1) }
 
   pub encodable-made : Encodable flags counts commands → encodable flags counts commands ≡ true
@@ -107,21 +102,13 @@ pub record Accepted (flags counts commands : List ℕ) (room : ℕ) : Type 0 whe
   pub short : sizeOf counts ≤ limit
   pub fits : sizeOf counts ≤ room
 
-first-fine : (a b : Verdict) → firstOf a b ≡ Fine → (a ≡ Fine) × (b ≡ Fine)
-first-fine Fine b e = (refl, e)
-first-fine (Refused r) b e = let z : _≡_ {A = ℕ} 0 1 = cc in absurd (omega arith)
-
-not-refused : (t : Bool) (r : Refusal) → refusedIf t r ≡ Fine → t ≡ false
-not-refused true r e = let z : _≡_ {A = ℕ} 0 1 = cc in absurd (omega arith)
-not-refused false r e = refl
-
 module _ (flags counts commands : List ℕ) (room : ℕ) where
   pub accepted : writeVerdict flags counts commands room ≡ Fine → Accepted flags counts commands room
   unfolding writeVerdict
   accepted e =
-      let p1 = first-fine (refusedIf (not (eqb (length commands % 12) 0)) BadBuffer) _ e in
-      let p2 = first-fine (refusedIf (not (encodable flags counts commands)) NotEncodable) _ (p1 .1) in
-      let p3 = first-fine (refusedIf (ltb limit (sizeOf counts)) NoRoom) _ (p2 .1) in
+      let p1 = both-fine (refusedIf (not (eqb (length commands % 12) 0)) BadBuffer) _ e in
+      let p2 = both-fine (refusedIf (not (encodable flags counts commands)) NotEncodable) _ (p1 .1) in
+      let p3 = both-fine (refusedIf (ltb limit (sizeOf counts)) NoRoom) _ (p2 .1) in
       record {
         fields = encodable-tells flags counts commands (not-false _ (not-refused _ NotEncodable (p2 .0)));
         short = ltb-false _ _ (not-refused _ NoRoom (p3 .0));
@@ -197,6 +184,3 @@ unfolding fileOf sizeOf
 file-steps l m1 m2 version flags counts commands a e1 e2 =
     let h = length-headBytes version (length counts) (78 + 4 * length counts + 12 * sum counts (length counts) - 44) in
     over-next l m1 m2 0 _ _ 78 e1 e2 (omega (arith, h)) (omega (arith, h, length-objects flags counts commands (length counts) (omega (arith, a .fields .whole)), a .fits))
-
-pub left-is : {out out′ : List ℕ} {n n′ : ℕ} → out ≡ out′ → n ≡ n′ → left out (Bytes n) ≡ left out′ (Bytes n′)
-left-is e f = cc

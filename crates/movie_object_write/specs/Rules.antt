@@ -7,7 +7,7 @@ use lib.Dec.{eqb, leb, ltb}
 use lib.ListN.{length, getD, take, drop, replicate}
 use Rattle.laws.specs.Firsts.{sum, allBelow, blocks}
 use Rattle.laws.specs.Over.{over}
-use Rattle.common.specs.Rules.{be4, bytes2, bytes4, limit}
+use Rattle.common.specs.Rules.{be4, bytes2, bytes4, limit, Left, leftAs}
 use Rattle.error.specs.Rules.{firstOf, refusedIf}
 use Rattle.error.specs.declared.Refusal.the-variants.{NoRoom, BadBuffer, NotEncodable}
 use Rattle.error.specs.declared.Verdict.{Verdict}
@@ -16,8 +16,6 @@ use Rattle.movie_object.specs.declared.MovieObject.{MovieObject}
 use Rattle.movie_object.specs.declared.Object.the-variants as found
 use Rattle.movie_object.specs.declared.Parsed.the-variants as parsed
 use Rattle.movie_object.specs.Rules.{mobj, place, countOf, verdictOf, parseOf, objectOf, partOf}
-use Rattle.movie_object_write.specs.declared.Written.{Written}
-use Rattle.movie_object_write.specs.declared.Written.the-variants as written
 
 -- A record is a version; for each object three flags and a number of commands; and all commands, one after the other.
 
@@ -81,19 +79,6 @@ writeVerdict flags counts commands room =
     (refusedIf (ltb room (sizeOf counts)) NoRoom)))
 
 -- ---- what the writer leaves
-
--- The answer beside the lent buffer.
-pub record Left : Type 0 where
-  pub out : List ℕ
-  pub answer : Written
-
-abbrev pub left : List ℕ → Written → Left
-left out answer = record { out = out; answer = answer }
-
--- The file from place 0, and the rest as it was; on a refusal all of it as it was.
-abbrev pub leftAs : Verdict → List ℕ → ℕ → List ℕ → Left
-leftAs verdict.Fine file size out = left (over out 0 file) (written.Bytes size)
-leftAs (verdict.Refused r) file size out = left out (written.Refused r)
 
 unfoldable pub writeOf : ℕ → List ℕ → List ℕ → List ℕ → List ℕ → Left
 writeOf version flags counts commands out =

@@ -1,5 +1,6 @@
 // Writing MovieObject.bdmv into a lent buffer (the Rust's `MovieObjects::encode`).
 use common::LIMIT;
+use common::Written;
 use common::all_below;
 use common::put_bytes;
 use common::put_zeros;
@@ -12,14 +13,10 @@ ghost use Prim.Native.Nat.{_+_, _*_, _-_, _≤_, _<_};
 ghost use lib.ListN.{length};
 ghost use Rattle.laws.specs.Firsts.{sum, allBelow, blocks};
 ghost use Rattle.laws.specs.Over.{over};
-ghost use Rattle.movie_object_write.specs.Rules.{flagByte, objectBytes, object, headBytes, encodable, writeVerdict, left, leftAs, fileOf, sizeOf, writeOf, WritingThenReading, ReadingThenWriting};
+ghost use Rattle.common.specs.Rules.{left, leftAs};
+ghost use Rattle.movie_object_write.specs.Rules.{flagByte, objectBytes, object, headBytes, encodable, writeVerdict, fileOf, sizeOf, writeOf, WritingThenReading, ReadingThenWriting};
 ghost use Rattle.movie_object_write.specs.Laws.{Accepted};
 ghost use Rattle.error.specs.declared.Verdict.the-variants.{Fine};
-
-pub enum Written {
-    Bytes(usize),
-    Refused(Refusal),
-}
 
 // The file of a record: its version; for each object three flags of one bit and a number of commands; and all commands, one after the other.
 pub fn write(version: u32, flags: &[u8], counts: &[u32], commands: &[u8], out: &mut [u8]) -> Written

@@ -7,6 +7,7 @@ ghost use Rattle.error.specs.declared.Verdict.the-variants.{Fine};
 ghost use Rattle.common.specs.Rules.{be2};
 ghost use Rattle.movie_object.specs.Rules.{verdictOf};
 ghost use Rattle.movie_object.specs.Pieces.{Placed};
+use common::Written;
 use error::Verdict;
 use index_bdmv::AppInfoBdmv;
 use index_bdmv::IndexBdmv;
@@ -283,8 +284,8 @@ fn put_written(
     let mut made = [0u8; 65536];
     let written = movie_object_write::write(version, flags, counts, commands, &mut made);
     match written {
-        movie_object_write::Written::Bytes(size) => put_made(out, at, &made, size, file),
-        movie_object_write::Written::Refused(why) => text::put_byte(out, at, why.number()),
+        Written::Bytes(size) => put_made(out, at, &made, size, file),
+        Written::Refused(why) => text::put_byte(out, at, why.number()),
     }
 }
 
@@ -550,8 +551,8 @@ fn put_written_index(
         &mut made,
     );
     match written {
-        index_bdmv_write::Written::Bytes(size) => put_made(out, at, &made, size, index),
-        index_bdmv_write::Written::Refused(why) => text::put_byte(out, at, why.number()),
+        Written::Bytes(size) => put_made(out, at, &made, size, index),
+        Written::Refused(why) => text::put_byte(out, at, why.number()),
     }
 }
 

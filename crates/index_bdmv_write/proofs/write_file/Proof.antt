@@ -2,7 +2,8 @@
 use mathlib.Core.Path.{refl}
 use native.Mathlib.Omega.{arith}
 use borrow.Author.Needs.{needs}
-use Rattle.index_bdmv_write.specs.Laws.{file-steps, left-is}
+use Rattle.common.specs.Laws.{left-is}
+use Rattle.index_bdmv_write.specs.Laws.{file-steps}
 use Rattle.index_bdmv_write.specs.Rules.{Entries, entries, sizeOf, titlesOf}
 use denote.Ref.{now}
 use Rattle.index_bdmv_write.proofs.write_file.Statement.{statement}

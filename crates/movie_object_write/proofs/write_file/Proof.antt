@@ -5,7 +5,8 @@ use native.Mathlib.Omega.{arith}
 use lib.ListN.{length}
 use borrow.Author.Needs.{needs}
 use Rattle.laws.specs.Over.{over}
-use Rattle.movie_object_write.specs.Laws.{size-is, size-from, file-steps, left-is}
+use Rattle.common.specs.Laws.{left-is}
+use Rattle.movie_object_write.specs.Laws.{size-is, size-from, file-steps}
 use Rattle.movie_object_write.specs.Rules.{sizeOf, headBytes}
 use denote.Ref.{now}
 use Rattle.movie_object_write.proofs.write_file.Statement.{statement}

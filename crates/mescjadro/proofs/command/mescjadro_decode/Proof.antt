@@ -16,7 +16,7 @@ unfolding decodeCall
 returns-2 c = rw (eq-eqb _ _ (c .before .before .if1 .left), ne-eqb _ _ (c .before .if2 .taken), c .refused2 .ensures)
 
 returns-3 : tie.Need-returns-3
-returns-3 c = decoded _ _ _ (c .before .before .before .before .before .before .before .before .if2 .left) (c .before .before .before .before .before .before .before .twelve .ensures) refl _ _ _ (c .before .before .before .before .before .before .before .before .before .if1 .left) (c .before .before .before .before .before .numbers-of .ensures) (c .before .before .put .ensures)
+returns-3 c = decoded _ _ _ (c .before .before .before .before .before .before .before .before .if2 .left) (c .before .before .before .before .before .before .before .fetch .ensures) refl _ _ _ (c .before .before .before .before .before .before .before .before .before .if1 .left) (c .before .before .before .before .before .numbers-of .ensures) (c .before .before .put .ensures)
 
 pub mescjadro-decode-spec : {M : Type 1} → statement M
 mescjadro-decode-spec =

@@ -1,7 +1,7 @@
 -- A refusal leaves the length; a file gives its own. Assumes nothing.
 use borrow.Author.Needs.{needs}
-use Rattle.mescjadro.proofs.object.hand_file.Statement.{statement}
-use Rattle.mescjadro.proofs.object.hand_file.Tie as tie
+use Rattle.mescjadro.proofs.hand.hand_file.Statement.{statement}
+use Rattle.mescjadro.proofs.hand.hand_file.Tie as tie
 
 returns : tie.Need-returns
 returns c = rw (c .before .before .written .given .1, c .refused .ensures)
