@@ -1,8 +1,7 @@
 -- How a drive of objects unrolls, and what its tests tell. Assumes nothing.
-use mathlib.Core.Path.{_≡_, refl, sym, ap, _∙_}
-use mathlib.Core.Bool.{Bool, true, false}
+use mathlib.Core.Path.{_≡_, sym, ap, _∙_}
 use mathlib.Core.List.{List}
-use Prim.Native.Nat.{ℕ, zero, suc, _-_, _<_, _≤_}
+use Prim.Native.Nat.{ℕ, zero, suc, _-_, _<_}
 use native.Mathlib.Omega.{arith}
 use native.Mathlib.Numerals.{sub-one}
 use lib.Dec.{eqb}
@@ -10,7 +9,7 @@ use lib.ListN.{getD}
 use Rattle.common.specs.Rules.{be2}
 use Rattle.error.specs.declared.Refusal.{Refusal}
 use Rattle.error.specs.declared.Verdict.{Verdict}
-use Rattle.error.specs.declared.Verdict.the-variants.{Fine, Refused}
+use Rattle.error.specs.declared.Verdict.the-variants.{Refused}
 use Rattle.laws.specs.Cases.{either-way}
 use Rattle.movie_object.specs.Rules.{countOf, commandsOf}
 use Rattle.session.specs.declared.Session.{Session}

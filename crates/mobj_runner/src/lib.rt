@@ -3,7 +3,7 @@ ghost use mathlib.Core.Path.{_≡_};
 ghost use Prim.Native.Nat.{_≤_, _<_};
 ghost use lib.ListN.{length};
 ghost use Rattle.error.specs.declared.Verdict.the-variants.{Fine};
-ghost use Rattle.movie_object.specs.Rules.{countOf, verdictOf};
+ghost use Rattle.movie_object.specs.Rules.{countOf};
 ghost use Rattle.vm.specs.Rules.{banks};
 ghost use Rattle.mobj_runner.specs.Rules.{follows, asked, framed, world, returned, jumped, called, acted, turnOf, driveOf, begun, waits, verdictFor, answerOf};
 ghost use Rattle.mobj_runner.specs.Pieces.{Ready, Settled};
@@ -161,14 +161,6 @@ fn act(frames: &mut [u32], count: u32, s: Session, next: Follow, left: u32) -> T
     }
 }
 
-// The number of objects of a file that is read.
-pub fn object_count(file: &[u8]) -> u32
-    requires { ⌜ verdictOf (now file) ≡ Fine ⌝ }
-    ensures { λ r. ⌜ r ≡ countOf (now (file .entry)) ⌝ }
-{
-    common::be16(file, 76) as u32
-}
-
 // One turn: the current object's commands, and what follows their end.
 fn one_turn(
     gpr: &mut [u32],
@@ -189,7 +181,7 @@ fn one_turn(
     let pc = s.pc as usize;
     let commands = movie_object::commands_at(file, places, object);
     let ran = vm::run_commands(gpr, psr, classes, commands, pc, steps);
-    let count = object_count(file);
+    let count = movie_object::count_of(file);
     let end = ran.end;
     let next = what_follows(end);
     let mut t = s;

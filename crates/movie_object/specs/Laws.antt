@@ -16,7 +16,7 @@ use Rattle.common.specs.declared.Moved.the-variants as moved
 use Rattle.common.specs.declared.Half.{Half}
 use Rattle.common.specs.declared.Half.the-variants as half
 use Rattle.common.specs.Rules.{be2, be4, seekOf, readU16, limit, headerOf}
-use Rattle.common.specs.Laws.{u16-read, u16-past, Headed, headed, header-fine, be2-below}
+use Rattle.common.specs.Laws.{u16-read, u16-past, Headed, headed, header-fine}
 use Rattle.error.specs.declared.Refusal.{Refusal}
 use Rattle.error.specs.declared.Refusal.the-variants.{BadBody}
 use Rattle.error.specs.declared.Verdict.{Verdict}
@@ -56,7 +56,7 @@ grows : (s : List ℕ) (n m : ℕ) → place s n ≤ place s (n + m)
 grows s n zero = rw (add-zero n) (omega arith)
 grows s n (suc m) = rw (add-suc n m, ← add-one (n + m)) (omega (arith, grows s n m, place-suc s (n + m)))
 
-pub place-mono : (s : List ℕ) (n m : ℕ) → n ≤ m → place s n ≤ place s m
+place-mono : (s : List ℕ) (n m : ℕ) → n ≤ m → place s n ≤ place s m
 place-mono s n m h = rw (add-sub-of-le h) at (grows s n (m - n))
 
 -- each object has a head, so there are fewer of them than bytes
@@ -84,11 +84,11 @@ module _ (s : List ℕ) where
   unfolding verdictOf
   verdict-header r e = rw e
 
-  pub verdict-stated : headerOf mobj s ≡ Fine → length s < 44 + be4 s 40 → verdictOf s ≡ Refused BadBody
+  verdict-stated : headerOf mobj s ≡ Fine → length s < 44 + be4 s 40 → verdictOf s ≡ Refused BadBody
   unfolding verdictOf bodyOf
   verdict-stated h l = simp (h, lt-leb _ _ l)
 
-  pub verdict-last : headerOf mobj s ≡ Fine → length s < place s (countOf s) → verdictOf s ≡ Refused BadBody
+  verdict-last : headerOf mobj s ≡ Fine → length s < place s (countOf s) → verdictOf s ≡ Refused BadBody
   unfolding verdictOf bodyOf
   verdict-last h l = simp (h, lt-leb _ _ l) (same (leb (44 + be4 s 40) (length s)) (Refused BadBody))
 
@@ -161,7 +161,7 @@ module _ (s : List ℕ) (n : ℕ) where
   pub object-in : verdictOf s ≡ Fine → n < countOf s → place s n + 4 + 12 * be2 s (place s n + 2) ≤ length s
   object-in v h = omega (arith, good s v .last, place-suc s n, place-mono s (n + 1) (countOf s) (omega arith))
 
-  pub commands-there : n < countOf s → commandsOf s n ≡ take (12 * commandCount s n) (drop (place s n + 4) s)
+  commands-there : n < countOf s → commandsOf s n ≡ take (12 * commandCount s n) (drop (place s n + 4) s)
   unfolding commandsOf
   commands-there h = simp (lt-ltb n (countOf s) h)
 
@@ -174,7 +174,7 @@ module _ (s : List ℕ) (n : ℕ) where
   unfolding commandsOf
   commands-missing h = simp (le-ltb n (countOf s) h)
 
-  pub commands-length : verdictOf s ≡ Fine → n < countOf s → length (commandsOf s n) ≡ 12 * commandCount s n
+  commands-length : verdictOf s ≡ Fine → n < countOf s → length (commandsOf s n) ≡ 12 * commandCount s n
   unfolding commandCount
   commands-length v h =
       ap length (commands-there h)
@@ -186,7 +186,7 @@ module _ (s : List ℕ) (n : ℕ) where
     pub twelves : length (commandsOf s n) ≡ 12 * count
     pub fits : 12 * count ≤ limit
 
-  pub commands-whole : verdictOf s ≡ Fine → Whole
+  commands-whole : verdictOf s ≡ Fine → Whole
   unfolding commandCount
   commands-whole v = go (ltb n (countOf s)) refl
     where
@@ -203,15 +203,6 @@ module _ (s : List ℕ) (n : ℕ) where
   pub commands-few : verdictOf s ≡ Fine → length (commandsOf s n) / 12 ≤ 1398101
   commands-few v = let w = commands-whole v in omega (arith, w .twelves, w .fits)
 
-  -- and in a file of bytes a count has two of them
-  pub commands-65535 : ((i : ℕ) → getD s i 0 < 256) → verdictOf s ≡ Fine → length (commandsOf s n) / 12 ≤ 65535
-  unfolding commandCount
-  commands-65535 b v = go (ltb n (countOf s)) refl
-    where
-      go : (t : Bool) → ltb n (countOf s) ≡ t → length (commandsOf s n) / 12 ≤ 65535
-      go true e = omega (arith, commands-length v (ltb-true n (countOf s) e), be2-below s (place s n + 2) b)
-      go false e = omega (arith, ap length (commands-missing (ltb-false n (countOf s) e)))
-
 -- ---- a table of places
 
 -- the numbers of t below n, as far as it reaches, are the places of those objects
@@ -221,7 +212,7 @@ pub record Filled (s : List ℕ) (n : ℕ) (t : List ℕ) : Type 0 where
 pub filled-none : (s t : List ℕ) → Filled s 0 t
 filled-none s t = record { at = λ k h b. absurd (omega arith) }
 
-pub filled-more : (s t : List ℕ) (k p : ℕ) → Filled s k t → p ≡ place s k → Filled s (k + 1) (set t k p)
+filled-more : (s t : List ℕ) (k p : ℕ) → Filled s k t → p ≡ place s k → Filled s (k + 1) (set t k p)
 filled-more s t k p was e =
     record {
       at = below-more (λ (i : ℕ). i < length (set t k p) → getD (set t k p) i 0 ≡ place s i) k
@@ -229,7 +220,7 @@ filled-more s t k p was e =
           (λ r. getD-set-same t k p 0 (omega (arith, length-set t k p)) ∙ e);
     }
 
-pub filled-placed : (s t : List ℕ) → Filled s (countOf s) t → countOf s ≤ length t → Placed s t
+filled-placed : (s t : List ℕ) → Filled s (countOf s) t → countOf s ≤ length t → Placed s t
 filled-placed s t f h = record { room = h; at = λ k b. f .at k b (omega arith) }
 
 -- what a walk over n heads answers: whether all of them lie within the file, and then their places

@@ -89,7 +89,7 @@ impl MovieObjects {
     }
 }
 
-// The number of objects; bytes past the end count as 0.
+// The number of objects that a file states, before it is judged; bytes past the end count as 0.
 pub fn object_count(file: &[u8]) -> u32
     ensures { λ r. ⌜ r ≡ countOf (now (file .entry)) ⌝ }
 {
@@ -197,6 +197,14 @@ fn skip_object(file: &[u8], head: Reader) -> Moved
     body.skip(file, 12 * (count as usize))
 }
 
+// The number of objects of an accepted file.
+pub fn count_of(file: &[u8]) -> u32
+    requires { ⌜ verdictOf (now file) ≡ Fine ⌝ }
+    ensures { λ r. ⌜ r ≡ countOf (now (file .entry)) ⌝ }
+{
+    be16(file, 76) as u32
+}
+
 // A number into a table, where the table has such a place.
 fn put_place(places: &mut [u32], k: usize, at: u32)
     ensures { λ _. ⌜ now (places .exit) ≡ set (now (places .entry)) k at ⌝ }
@@ -211,7 +219,7 @@ pub fn commands_at<'a>(file: &'a [u8], places: &[u32], n: u32) -> &'a [u8]
     requires { ⌜ (verdictOf (now file) ≡ Fine) × Placed (now file) (now places) ⌝ }
     ensures { λ r. ⌜ now r ≡ commandsOf (now (file .entry)) n ⌝ }
 {
-    if n < object_count(file) {
+    if n < count_of(file) {
         let at = places[n as usize] as usize;
         return part_at(file, at);
     }
@@ -247,7 +255,7 @@ fn object_of(file: &[u8], n: u32) -> Object
     requires { ⌜ verdictOf (now file) ≡ Fine ⌝ }
     ensures { λ r. ⌜ r ≡ foundAs (onDisc (now (file .entry)) n) (headOf (now (file .entry)) n) ⌝ }
 {
-    if n < object_count(file) {
+    if n < count_of(file) {
         let at = place_of(file, n);
         return Object::Found(head_at(file, at));
     }
@@ -273,7 +281,7 @@ fn commands_of(file: &[u8], n: u32) -> &[u8]
     requires { ⌜ verdictOf (now file) ≡ Fine ⌝ }
     ensures { λ r. ⌜ now r ≡ commandsOf (now (file .entry)) n ⌝ }
 {
-    if n < object_count(file) {
+    if n < count_of(file) {
         let at = place_of(file, n);
         return part_at(file, at);
     }

@@ -1,6 +1,5 @@
 -- How a drive of titles unrolls. Assumes nothing.
-use mathlib.Core.Path.{_≡_, refl, sym, ap, _∙_}
-use mathlib.Core.Bool.{Bool, true, false}
+use mathlib.Core.Path.{_≡_, sym, ap, _∙_}
 use mathlib.Core.List.{List}
 use Prim.Native.Nat.{ℕ, zero, suc, _-_, _<_}
 use native.Mathlib.Omega.{arith}
@@ -19,7 +18,7 @@ use Rattle.nav_driver.specs.declared.Follow.{Follow}
 use Rattle.nav_driver.specs.declared.Follow.the-variants.{Return, Jump, Call, Yield, End}
 use Rattle.nav_driver.specs.declared.Turn.{Turn}
 use Rattle.nav_driver.specs.declared.Turn.the-variants.{Go, Stop}
-use Rattle.nav_driver.specs.Rules.{Seeded, seeded, follows, jumped, called, returned, acted, objectSide, Rooms, rooms, turnOf, titlesOf, ended}
+use Rattle.nav_driver.specs.Rules.{Seeded, follows, jumped, called, returned, acted, objectSide, Rooms, rooms, turnOf, titlesOf, ended}
 use Rattle.nav_driver.specs.Pieces.{Settled}
 
 stops : {s t : Session} {o : DriveOutcome} → Stop s o ≡ Go t → ⊥

@@ -11,7 +11,6 @@ ghost use Rattle.nav_driver.specs.Pieces.{Able, Settled};
 use error::Refusal;
 use error::Verdict;
 use index_bdmv::Lead;
-use mobj_runner::RunEnd;
 use mobj_runner::RunOutcome;
 use session::Budgets;
 use session::Session;
@@ -276,7 +275,7 @@ fn one_turn(
     let steps = b.steps;
     let objects = b.objects;
     let end = mobj_runner::drive(gpr, psr, frames, classes, file, places, s, steps, objects);
-    let count = mobj_runner::object_count(file);
+    let count = movie_object::count_of(file);
     let outcome = end.outcome;
     let next = what_follows(outcome);
     act(psr, titles, index, count, end.session, next, left)

@@ -1,4 +1,3 @@
-use mathlib.Core.Path.{_≡_, refl, sym, ap, _∙_}
 use borrow.Author.Needs.{needs}
 use Rattle.mobj_runner.specs.Rules.{answerOf}
 use Rattle.mobj_runner.proofs.answer.Statement.{statement}

@@ -1,6 +1,5 @@
-use mathlib.Core.Path.{_≡_, refl, sym, ap, _∙_}
 use borrow.Author.Needs.{needs}
-use borrow.Author.Tests.{le-leb, lt-leb, eq-eqb, ne-eqb}
+use borrow.Author.Tests.{le-leb, lt-leb}
 use Rattle.mobj_runner.specs.Rules.{startOf}
 use Rattle.mobj_runner.proofs.begin.Statement.{statement}
 use Rattle.mobj_runner.proofs.begin.Tie as tie

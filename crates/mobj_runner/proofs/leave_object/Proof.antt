@@ -1,5 +1,5 @@
 use borrow.Author.Needs.{needs}
-use borrow.Author.Tests.{le-leb, lt-leb, eq-eqb, ne-eqb}
+use borrow.Author.Tests.{eq-eqb, ne-eqb}
 use Rattle.mobj_runner.specs.Rules.{returned}
 use Rattle.mobj_runner.proofs.leave_object.Statement.{statement}
 use Rattle.mobj_runner.proofs.leave_object.Tie as tie

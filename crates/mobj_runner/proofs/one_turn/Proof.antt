@@ -28,7 +28,7 @@ cast-t c =
 
 returns : tie.Need-returns
 unfolding turnOf
-returns c = rw (← c .before .before .before .before .before .before .before .before .before .before .before .before .before .before .commands-at .ensures, ← c .before .before .before .before .before .before .before .before .before .before .before .run-commands .ensures, ← c .before .before .before .before .before .before .object-count .ensures, ← c .before .before .before .before .before .what-follows .ensures) (ap (joined _) (c .before .before .act .ensures))
+returns c = rw (← c .before .before .before .before .before .before .before .before .before .before .before .before .before .before .commands-at .ensures, ← c .before .before .before .before .before .before .before .before .before .before .before .run-commands .ensures, ← c .before .before .before .before .before .before .count-of .ensures, ← c .before .before .before .before .before .what-follows .ensures) (ap (joined _) (c .before .before .act .ensures))
 
 pub one-turn-spec : {M : Type 1} → statement M
 one-turn-spec =

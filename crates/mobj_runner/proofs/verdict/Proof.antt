@@ -1,4 +1,4 @@
-use mathlib.Core.Path.{_≡_, refl, sym, ap, _∙_}
+use mathlib.Core.Path.{sym, _∙_}
 use borrow.Author.Needs.{needs}
 use Rattle.mobj_runner.specs.Laws.{settled-refused}
 use Rattle.mobj_runner.specs.Rules.{verdictFor}

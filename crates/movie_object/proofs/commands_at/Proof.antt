@@ -11,7 +11,7 @@ use Rattle.movie_object.proofs.commands_at.Statement.{statement}
 use Rattle.movie_object.proofs.commands_at.Tie as tie
 
 there : (c : tie.Then1) → c .before .before .before .before .args .n < countOf (now (c .before .before .before .before .args .file))
-there c = omega (arith, c .if1 .taken, c .before .object-count .ensures)
+there c = omega (arith, c .if1 .taken, c .before .count-of .ensures)
 
 placed : (c : tie.Then1) → getD (now (c .before .before .before .before .args .places)) (c .before .before .before .before .args .n) 0 ≡ place (now (c .before .before .before .before .args .file)) (c .before .before .before .before .args .n)
 placed c = c .before .before .before .before .pre .1 .at _ (there c)
@@ -29,7 +29,7 @@ returns : tie.Need-returns
 returns c = c .part-at .ensures ∙ sym (commands-from _ _ _ (there (c .before .before)) (placed (c .before .before)))
 
 returns-2 : tie.Need-returns-2
-returns-2 c = sym (commands-missing _ _ (omega (arith, c .before .if1 .left, c .before .before .object-count .ensures)))
+returns-2 c = sym (commands-missing _ _ (omega (arith, c .before .if1 .left, c .before .before .count-of .ensures)))
 
 pub commands-at-spec : {M : Type 1} → statement M
 commands-at-spec =

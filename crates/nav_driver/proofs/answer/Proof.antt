@@ -1,4 +1,3 @@
-use mathlib.Core.Path.{_≡_, refl, sym, ap, _∙_}
 use borrow.Author.Needs.{needs}
 use Rattle.nav_driver.specs.Rules.{answerOf}
 use Rattle.nav_driver.proofs.answer.Statement.{statement}

@@ -1,4 +1,4 @@
-use borrow.Author.Tests.{lt-ltb, le-ltb, le-leb, lt-leb, eq-eqb, ne-eqb}
+use borrow.Author.Tests.{lt-ltb, le-ltb}
 use Rattle.nav_driver.specs.Rules.{badNumber}
 use Rattle.nav_driver.proofs.bad_title.Statement.{statement}
 use Rattle.nav_driver.proofs.bad_title.Tie as tie

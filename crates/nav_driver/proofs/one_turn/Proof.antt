@@ -5,7 +5,7 @@ use Rattle.nav_driver.proofs.one_turn.Tie as tie
 
 returns : tie.Need-returns
 unfolding turnOf
-returns c = rw (← c .before .before .before .before .before .before .before .before .before .before .before .before .before .before .before .drive .ensures, ← c .before .before .before .before .before .before .before .before .object-count .ensures, ← c .before .before .before .before .before .before .before .what-follows .ensures, ← c .before .before .before .before .act .ensures)
+returns c = rw (← c .before .before .before .before .before .before .before .before .before .before .before .before .before .before .before .drive .ensures, ← c .before .before .before .before .before .before .before .before .count-of .ensures, ← c .before .before .before .before .before .before .before .what-follows .ensures, ← c .before .before .before .before .act .ensures)
 
 pub one-turn-spec : {M : Type 1} → statement M
 one-turn-spec =

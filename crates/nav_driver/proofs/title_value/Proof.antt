@@ -1,4 +1,4 @@
-use borrow.Author.Tests.{lt-ltb, le-ltb, le-leb, lt-leb, eq-eqb, ne-eqb}
+use borrow.Author.Tests.{lt-ltb, le-ltb, eq-eqb, ne-eqb}
 use Rattle.nav_driver.specs.Rules.{titleValue}
 use Rattle.nav_driver.proofs.title_value.Statement.{statement}
 use Rattle.nav_driver.proofs.title_value.Tie as tie

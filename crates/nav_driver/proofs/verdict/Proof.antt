@@ -1,4 +1,4 @@
-use mathlib.Core.Path.{_≡_, refl, sym, ap, _∙_}
+use mathlib.Core.Path.{sym, _∙_}
 use borrow.Author.Needs.{needs}
 use Rattle.nav_driver.specs.Laws.{settled-refused}
 use Rattle.nav_driver.specs.Rules.{verdictFor}

@@ -1,10 +1,10 @@
 -- The count lies within a file that is read. Assumes nothing.
 use native.Mathlib.Omega.{arith}
 use borrow.Author.Needs.{needs}
 use Rattle.movie_object.specs.Laws.{good, place-from}
 use Rattle.movie_object.specs.Rules.{countOf}
-use Rattle.mobj_runner.proofs.object_count.Statement.{statement}
-use Rattle.mobj_runner.proofs.object_count.Tie as tie
+use Rattle.movie_object.proofs.count_of.Statement.{statement}
+use Rattle.movie_object.proofs.count_of.Tie as tie
 
 be16-requires : tie.Need-be16-requires
 be16-requires c κs =
@@ -17,5 +17,5 @@ returns : tie.Need-returns
 unfolding countOf
 returns c = c .be16 .ensures
 
-pub object-count-spec : {M : Type 1} → statement M
-object-count-spec = tie.close (tie.spec be16-requires (λ c. search needs) returns)
+pub count-of-spec : {M : Type 1} → statement M
+count-of-spec = tie.close (tie.spec be16-requires (λ c. search needs) returns)
