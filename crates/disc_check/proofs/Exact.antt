@@ -1,6 +1,6 @@
 -- The check passes exactly the discs of which no command can ask for what the disc lacks. Assumes nothing.
 use mathlib.Core.Path.{_≡_, refl, sym, ap, subst, _∙_}
-use mathlib.Core.Bool.{Bool, true, false, cond}
+use mathlib.Core.Bool.{Bool, true, false}
 use mathlib.Core.List.{List, [], _∷_}
 use mathlib.Core.Logic.{_⊎_, ⊎-elim}
 use Prim.Native.Nat.{ℕ, zero, suc, _+_, _*_, _/_, _%_, _^_, _<_, _≤_}
@@ -8,7 +8,7 @@ use native.Mathlib.Nat.{eq-or-lt-of-le}
 use native.Mathlib.Omega.{arith}
 use lib.Dec.{T, eqb, leb, ltb}
 use lib.ListN.{length, getD, List·getD-eq-default}
-use borrow.Author.Tests.{lt-ltb, le-ltb, le-leb, lt-leb, ltb-true, ltb-false, leb-true, leb-false}
+use borrow.Author.Tests.{le-leb, lt-leb, ltb-true, ltb-false, leb-false}
 use Rattle.laws.specs.Cases.{either-way, by-test}
 use Rattle.error.specs.declared.Refusal.{Refusal}
 use Rattle.error.specs.declared.Verdict.{Verdict}
@@ -29,19 +29,17 @@ use Rattle.nav_command.specs.declared.Operand.the-variants.{Absent, Immediate, 
 use Rattle.nav_command.specs.declared.Operation.{Operation}
 use Rattle.nav_command.specs.declared.Operation.the-variants as O
 use Rattle.nav_command.specs.declared.RegisterBank.the-variants.{Gpr, Psr, PsrSecondary}
-use Rattle.vm.specs.declared.NavRequest.{NavRequest}
 use Rattle.vm.specs.declared.Stepped.{Stepped}
 use Rattle.vm.specs.declared.Step.the-variants.{Branch}
 use Rattle.vm.specs.Laws.{Sized}
-use Rattle.vm.specs.Rules.{Banks, banks, After, valueOf, branchOf, execBranch, holdsFor, compareOf, execSet, systemOf, setOf, acted, execOf, fetched, stepOf, with, on, halted, goTo}
-use Rattle.disc_check.specs.declared.DiscCheck.{DiscCheck}
+use Rattle.vm.specs.Rules.{Banks, banks, After, valueOf, branchOf, execBranch, holdsFor, compareOf, execSet, systemOf, setOf, acted, execOf, fetched, stepOf, with, on, halted}
 use Rattle.disc_check.specs.declared.DiscCheck.the-variants as C
 use Rattle.disc_check.specs.declared.Reach.{Reach}
 use Rattle.disc_check.specs.declared.Reach.the-variants.{Always, Anything}
 use Rattle.disc_check.specs.declared.Found.{Found}
 use Rattle.disc_check.specs.declared.Found.the-variants.{At, Nothing}
-use Rattle.disc_check.specs.Rules.{registerReach, reachOf, leadsNowhere, objectOffends, titleOffends, branchOffends, operationOffends, groupOffends, commandOffends, offendsAt, firstCommand, orElse, inObject, firstObject, unlessRefused, checkOf}
-use Rattle.disc_check.specs.Promise.{lacks, asking, Contents, Offence, Clean, Before, First, Exactly, Exact}
+use Rattle.disc_check.specs.Rules.{registerReach, reachOf, leadsNowhere, objectOffends, titleOffends, branchOffends, operationOffends, groupOffends, commandOffends, offendsAt, firstCommand, inObject, firstObject, checkOf}
+use Rattle.disc_check.specs.Promise.{lacks, asking, Contents, Offence, Clean, First, Exact}
 
 pub true-false : {A : Type 0} → true ≡ false → A
 true-false h = absurd (subst (λ (b : Bool). T b) h tt)
@@ -282,7 +280,7 @@ module _ (x file : List ℕ) (n k : ℕ) where
   no-commands : countOf file ≤ n → length (commandsOf file n) / 12 ≡ 0
   no-commands h = rw (commands-missing file n h)
 
-  pub offence-bad : Offence x file n k → Bad x file n k
+  offence-bad : Offence x file n k → Bad x file n k
   offence-bad o =
       let cs = commandsOf file n in
       let sized : Sized 4096 128 (o .regs) = (o .contents .general, o .contents .status) in
@@ -296,7 +294,7 @@ module _ (x file : List ℕ) (n k : ℕ) where
       (λ off. none (λ h. absurd (omega (arith, ltb-false k (length cs / 12) off)))))
       (λ off. none (λ h. absurd (omega (arith, no-commands (ltb-false n (countOf file) off)))))
 
-  pub bad-offence : countOf file < 65536 → Bad x file n k → Offence x file n k
+  bad-offence : countOf file < 65536 → Bad x file n k → Offence x file n k
   bad-offence few b =
       let w = step-asked x (countOf file) few (commandsOf file n) k (b .command) (b .offends) in
       record { regs = w .regs; contents = w .contents; asks = w .asks }
@@ -310,7 +308,7 @@ pub record FirstAt (x : List ℕ) (n : ℕ) (cs : List ℕ) (left k m : ℕ) : T
   pub fine : (j : ℕ) → k ≤ j → j < m → offendsAt x n cs j ≡ false
 
 module _ (x : List ℕ) (n : ℕ) (cs : List ℕ) where
-  pub none-each : (left k : ℕ) → firstCommand x n cs left k ≡ Nothing → (j : ℕ) → k ≤ j → j < k + left → offendsAt x n cs j ≡ false
+  none-each : (left k : ℕ) → firstCommand x n cs left k ≡ Nothing → (j : ℕ) → k ≤ j → j < k + left → offendsAt x n cs j ≡ false
   unfolding firstCommand
   none-each zero k e j lo hi = absurd (omega arith)
   none-each (suc left) k e j lo hi =
@@ -318,12 +316,12 @@ module _ (x : List ℕ) (n : ℕ) (cs : List ℕ) where
       (λ b. let z : At k ≡ Nothing = rw b at e in let y : _≡_ {A = ℕ} 0 1 = cc in absurd (omega arith))
       (λ b. ⊎-elim (λ (q : k ≡ j). rw (← q, b)) (λ (q : k < j). none-each left (suc k) (rw b at e) j (omega arith) (omega arith)) (eq-or-lt-of-le lo))
 
-  pub each-none : (left k : ℕ) → ((j : ℕ) → k ≤ j → j < k + left → offendsAt x n cs j ≡ false) → firstCommand x n cs left k ≡ Nothing
+  each-none : (left k : ℕ) → ((j : ℕ) → k ≤ j → j < k + left → offendsAt x n cs j ≡ false) → firstCommand x n cs left k ≡ Nothing
   unfolding firstCommand
   each-none zero k f = refl
   each-none (suc left) k f = rw (f k (omega arith) (omega arith)) (each-none left (suc k) (λ j lo hi. f j (omega arith) (omega arith)))
 
-  pub first-at : (left k m : ℕ) → firstCommand x n cs left k ≡ At m → FirstAt x n cs left k m
+  first-at : (left k m : ℕ) → firstCommand x n cs left k ≡ At m → FirstAt x n cs left k m
   unfolding firstCommand
   first-at zero k m e = let z : _≡_ {A = ℕ} 0 1 = cc in absurd (omega arith)
   first-at (suc left) k m e =
@@ -352,7 +350,7 @@ module _ (x file : List ℕ) where
   found-or-not (At k) p q = p k refl
   found-or-not Nothing p q = q refl
 
-  pub passed-each : (left n : ℕ) → firstObject x file left n ≡ C.Passed → (j : ℕ) → n ≤ j → j < n + left → inObject x file j ≡ Nothing
+  passed-each : (left n : ℕ) → firstObject x file left n ≡ C.Passed → (j : ℕ) → n ≤ j → j < n + left → inObject x file j ≡ Nothing
   unfolding firstObject
   passed-each zero n e j lo hi = absurd (omega arith)
   passed-each (suc left) n e j lo hi =
@@ -360,12 +358,12 @@ module _ (x file : List ℕ) where
       (λ k b. let z : C.Offends n k ≡ C.Passed = rw b at e in let y : _≡_ {A = ℕ} 0 1 = cc in absurd (omega arith))
       (λ b. ⊎-elim (λ (q : n ≡ j). rw (← q) b) (λ (q : n < j). passed-each left (suc n) (rw b at e) j (omega arith) (omega arith)) (eq-or-lt-of-le lo))
 
-  pub each-passed : (left n : ℕ) → ((j : ℕ) → n ≤ j → j < n + left → inObject x file j ≡ Nothing) → firstObject x file left n ≡ C.Passed
+  each-passed : (left n : ℕ) → ((j : ℕ) → n ≤ j → j < n + left → inObject x file j ≡ Nothing) → firstObject x file left n ≡ C.Passed
   unfolding firstObject
   each-passed zero n f = refl
   each-passed (suc left) n f = rw (f n (omega arith) (omega arith)) (each-passed left (suc n) (λ j lo hi. f j (omega arith) (omega arith)))
 
-  pub first-in : (left n m k : ℕ) → firstObject x file left n ≡ C.Offends m k → FirstIn x file left n m k
+  first-in : (left n m k : ℕ) → firstObject x file left n ≡ C.Offends m k → FirstIn x file left n m k
   unfolding firstObject
   first-in zero n m k e = let z : _≡_ {A = ℕ} 0 1 = cc in absurd (omega arith)
   first-in (suc left) n m k e =
@@ -386,7 +384,7 @@ module _ (x file : List ℕ) where
 
   -- The check of two readable files, and of two that are passed.
 
-  pub check-fine : indexVerdict x ≡ verdict.Fine → objectsVerdict file ≡ verdict.Fine → checkOf x file ≡ firstObject x file (countOf file) 0
+  check-fine : indexVerdict x ≡ verdict.Fine → objectsVerdict file ≡ verdict.Fine → checkOf x file ≡ firstObject x file (countOf file) 0
   unfolding checkOf
   check-fine i o = rw (i, o)
 

@@ -1,7 +1,7 @@
 -- On a passed disc no drive ends in bad object or bad title: every turn keeps the invariant `Good`, and no end of an object asks
 -- for what the disc lacks. Assumes nothing.
 use mathlib.Core.Path.{_≡_, refl, sym, ap, _∙_}
-use mathlib.Core.Bool.{Bool, true, false, cond, not, _||_, _&&_}
+use mathlib.Core.Bool.{Bool, true, false, not, _||_}
 use mathlib.Core.List.{List}
 use Prim.Native.Nat.{ℕ, zero, suc, _+_, _*_, _-_, _/_, _%_, _<_, _≤_}
 use native.Mathlib.Omega.{arith}
@@ -9,18 +9,16 @@ use native.Mathlib.Numerals.{add-one}
 use lib.Dec.{eqb, leb, ltb}
 use lib.ListN.{length, getD, set, length-set}
 use lib.Seq.{getD-set-same, getD-set-other}
-use borrow.Author.Tests.{lt-ltb, le-ltb, le-leb, lt-leb, ltb-true, ltb-false, leb-true, leb-false, eqb-true}
+use borrow.Author.Tests.{le-ltb, lt-leb, ltb-false, leb-false}
 use Rattle.laws.specs.Cases.{either-way, by-test}
-use Rattle.error.specs.declared.Refusal.{Refusal}
 use Rattle.error.specs.declared.Refusal.the-variants.{NotAnEntry}
 use Rattle.error.specs.declared.Verdict.{Verdict}
 use Rattle.error.specs.declared.Verdict.the-variants as verdict
-use Rattle.error.specs.Rules.{refusedIf, firstOf}
 use Rattle.error.specs.Laws.{both-fine}
-use Rattle.index_bdmv.specs.Rules.{resolveOf, verdictOf as indexVerdict}
+use Rattle.index_bdmv.specs.Rules.{resolveOf}
 use Rattle.index_bdmv.specs.declared.Lead.{Lead}
 use Rattle.index_bdmv.specs.declared.Lead.the-variants as L
-use Rattle.movie_object.specs.Rules.{countOf, commandsOf, verdictOf as objectsVerdict}
+use Rattle.movie_object.specs.Rules.{countOf, commandsOf}
 use Rattle.session.specs.declared.Session.{Session}
 use Rattle.session.specs.declared.Budgets.{Budgets}
 use Rattle.session.specs.declared.ObjectFrame.{ObjectFrame}
@@ -31,10 +29,9 @@ use Rattle.vm.specs.declared.NavRequest.{NavRequest}
 use Rattle.vm.specs.declared.NavRequest.the-variants as Q
 use Rattle.vm.specs.declared.End.{End}
 use Rattle.vm.specs.declared.End.the-variants as E
-use Rattle.vm.specs.declared.Step.{Step}
 use Rattle.vm.specs.declared.Step.the-variants.{Branch}
 use Rattle.vm.specs.Laws.{Sized, run-sized, sized-step, run-asks}
-use Rattle.vm.specs.Rules.{Banks, banks, After, stepOf, runOf}
+use Rattle.vm.specs.Rules.{Banks, runOf}
 use Rattle.mobj_runner.specs.declared.RunOutcome.{RunOutcome}
 use Rattle.mobj_runner.specs.declared.RunOutcome.the-variants as R
 use Rattle.mobj_runner.specs.declared.RunEnd.{RunEnd}
@@ -42,8 +39,7 @@ use Rattle.mobj_runner.specs.declared.Turn.{Turn}
 use Rattle.mobj_runner.specs.declared.Turn.the-variants as T
 use Rattle.mobj_runner.specs.declared.Follow.{Follow}
 use Rattle.mobj_runner.specs.declared.Follow.the-variants as F
-use Rattle.mobj_runner.specs.Rules.{World, world, Framed, moved, asked, follows, returned, jumped, called, acted, turnOf, driveOf, continued, ended}
-use Rattle.nav_driver.specs.declared.DriveOutcome.{DriveOutcome}
+use Rattle.mobj_runner.specs.Rules.{World, world, moved, asked, follows, returned, jumped, called, acted, turnOf, driveOf, continued, ended}
 use Rattle.nav_driver.specs.declared.DriveOutcome.the-variants as D
 use Rattle.nav_driver.specs.declared.DriveEnd.{DriveEnd}
 use Rattle.nav_driver.specs.declared.DriveAnswer.{DriveAnswer}
@@ -54,11 +50,10 @@ use Rattle.nav_driver.specs.declared.Turn.{Turn as TitleTurn}
 use Rattle.nav_driver.specs.declared.Turn.the-variants as M
 use Rattle.nav_driver.specs.declared.Start.{Start}
 use Rattle.nav_driver.specs.declared.Start.the-variants.{Entry, Here}
-use Rattle.nav_driver.specs.Rules.{Seeded, Titled, Rooms, rooms, entered, jumpLed, callLed, deeper, cleared, taken, waiting, objectSide, titlesOf, startLed, arrived, startOf, goOnOf, begun, startVerdict, verdictFor, answered, answerOf, titleValue}
+use Rattle.nav_driver.specs.Rules.{Rooms, rooms, entered, jumpLed, callLed, deeper, cleared, taken, waiting, objectSide, titlesOf, startLed, arrived, startOf, goOnOf, startVerdict, verdictFor, answered, answerOf, titleValue}
 use Rattle.nav_driver.specs.Rules as driver
-use Rattle.disc_check.specs.declared.DiscCheck.the-variants.{Passed}
-use Rattle.disc_check.specs.Rules.{ledNowhere, leadsNowhere, offendsAt, checkOf, firstObject}
-use Rattle.disc_check.specs.Promise.{lacks, asking, NotBad, NeverBadAnswer, Good, Driven, started, resumed, Promise, NeverBad}
+use Rattle.disc_check.specs.Rules.{ledNowhere, leadsNowhere, offendsAt}
+use Rattle.disc_check.specs.Promise.{lacks, asking, NotBad, NeverBadAnswer, Good, Driven, started, resumed, NeverBad}
 use Rattle.disc_check.proofs.Exact.{true-false, step-fine, sound, passed-first}
 
 -- The live frames: the last one and those below it, and what a push leaves.

@@ -3,11 +3,11 @@ use mathlib.Core.Path.{_≡_}
 use mathlib.Core.Bool.{Bool, true, false}
 use mathlib.Core.List.{List}
 use mathlib.Core.Logic.{_⊎_}
-use Prim.Native.Nat.{ℕ, _/_, _%_, _^_, _<_, _≤_}
+use Prim.Native.Nat.{ℕ, _%_, _^_, _<_, _≤_}
 use lib.Dec.{leb}
 use lib.ListN.{length, getD}
 use Rattle.error.specs.declared.Verdict.the-variants.{Fine}
-use Rattle.index_bdmv.specs.Rules.{resolveOf, verdictOf as indexVerdict}
+use Rattle.index_bdmv.specs.Rules.{verdictOf as indexVerdict}
 use Rattle.movie_object.specs.Rules.{countOf, commandsOf, verdictOf as objectsVerdict}
 use Rattle.session.specs.declared.Session.{Session}
 use Rattle.session.specs.declared.Budgets.{Budgets}

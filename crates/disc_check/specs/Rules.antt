@@ -2,7 +2,7 @@
 -- order). That this is what it should compute is specs/Promise.antt. Assumes nothing.
 use mathlib.Core.Bool.{Bool, true, false, cond}
 use mathlib.Core.List.{List}
-use Prim.Native.Nat.{ℕ, zero, suc, _+_, _*_, _/_, _%_}
+use Prim.Native.Nat.{ℕ, zero, suc, _*_, _/_, _%_}
 use lib.Dec.{leb, ltb}
 use lib.ListN.{length}
 use Rattle.error.specs.declared.Verdict.{Verdict}

@@ -6,7 +6,6 @@ ghost use Rattle.error.specs.declared.Verdict.the-variants.{Fine};
 ghost use Rattle.index_bdmv.specs.Rules.{verdictOf as indexVerdict};
 ghost use Rattle.movie_object.specs.Rules.{countOf, verdictOf as objectsVerdict};
 ghost use Rattle.movie_object.specs.Pieces.{Placed};
-ghost use Rattle.vm.specs.Rules.{fetched};
 ghost use Rattle.disc_check.specs.Rules.{registerReach, reachOf, objectOffends, leadsNowhere, titleOffends, operationOffends, branchOffends, commandOffends, firstCommand, firstObject, checkOf};
 ghost use Rattle.disc_check.specs.Promise.{Exact, NeverBad};
 use error::Refusal;
@@ -146,27 +145,6 @@ fn command_offends(index: &[u8], count: u32, command: DecodedCommand) -> bool
     }
 }
 
-// The twelve bytes from a place on.
-fn fetch(commands: &[u8], at: usize) -> [u8; 12]
-    requires { ⌜ at + 12 ≤ length (now commands) ⌝ }
-    ensures { λ r. ⌜ r ≡ fetched (now (commands .entry)) at ⌝ }
-{
-    [
-        commands[at],
-        commands[at + 1],
-        commands[at + 2],
-        commands[at + 3],
-        commands[at + 4],
-        commands[at + 5],
-        commands[at + 6],
-        commands[at + 7],
-        commands[at + 8],
-        commands[at + 9],
-        commands[at + 10],
-        commands[at + 11],
-    ]
-}
-
 fn first_command(index: &[u8], count: u32, commands: &[u8]) -> Found
     requires { ⌜ (indexVerdict (now index) ≡ Fine) × (length (now commands) ≤ 16777216) ⌝ }
     ensures { λ r. ⌜ r ≡ firstCommand (now (index .entry)) count (now (commands .entry)) (length (now (commands .entry)) / 12) 0 ⌝ }
@@ -174,7 +152,7 @@ fn first_command(index: &[u8], count: u32, commands: &[u8]) -> Found
     let number = commands.len() / 12;
     let mut k: usize = 0;
     while k < number {
-        let bytes = fetch(commands, 12 * k);
+        let bytes = vm::fetch(commands, 12 * k);
         if command_offends(index, count, DecodedCommand::decode(&bytes)) {
             return Found::At(k as u32);
         }

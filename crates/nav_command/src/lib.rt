@@ -1,7 +1,7 @@
 // One navigation command: its parts, and how twelve bytes are read as one.
 ghost use mathlib.Core.Path.{_≡_};
-ghost use Prim.Native.Nat.{_+_, _≤_, _<_};
-ghost use Rattle.nav_command.specs.Rules.{wordAt, branchOf, compareOf, setOf, operationOf, groupOf, operandOf, commandOf};
+ghost use Prim.Native.Nat.{_<_};
+ghost use Rattle.nav_command.specs.Rules.{branchOf, compareOf, setOf, operationOf, groupOf, operandOf, commandOf};
 
 pub enum CommandGroup {
     Branch,
@@ -122,7 +122,7 @@ const PLAYS: [BranchOp; 6] = [
 ];
 
 // Compare codes, from 1.
-const COMPARES: [CompareOp; 7] = [
+pub const COMPARES: [CompareOp; 7] = [
     CompareOp::Bc,
     CompareOp::Eq,
     CompareOp::Ne,
@@ -133,7 +133,7 @@ const COMPARES: [CompareOp; 7] = [
 ];
 
 // Set codes of sub-groups 0 and 1, from 1.
-const SETS: [SetOp; 15] = [
+pub const SETS: [SetOp; 15] = [
     SetOp::Move,
     SetOp::Swap,
     SetOp::Add,
@@ -151,7 +151,7 @@ const SETS: [SetOp; 15] = [
     SetOp::ShiftRight,
 ];
 
-const SYSTEMS: [SystemOp; 11] = [
+pub const SYSTEMS: [SystemOp; 11] = [
     SystemOp::SetStream,
     SystemOp::SetNvTimer,
     SystemOp::SetButtonPage,
@@ -164,24 +164,6 @@ const SYSTEMS: [SystemOp; 11] = [
     SystemOp::SetOutputMode,
     SystemOp::SetStreamSS,
 ];
-
-fn wide(byte: u8) -> u32
-    ensures { λ r. ⌜ (r ≡ byte) × (r < 256) ⌝ }
-{
-    byte as u32
-}
-
-// The big-endian number at a place.
-fn word_at(bytes: &[u8; 12], at: usize) -> u32
-    requires { ⌜ at + 4 ≤ 12 ⌝ }
-    ensures { λ r. ⌜ r ≡ wordAt (now (bytes .entry)) at ⌝ }
-{
-    let a = wide(bytes[at]);
-    let b = wide(bytes[at + 1]);
-    let c = wide(bytes[at + 2]);
-    let d = wide(bytes[at + 3]);
-    a * 0x100_0000 + b * 0x1_0000 + c * 0x100 + d
-}
 
 fn unknown(sub: u8, code: u8) -> Operation
     ensures { λ r. ⌜ r ≡ Operation.Unknown sub code ⌝ }
@@ -359,8 +341,8 @@ impl DecodedCommand {
         let imm2 = flags / 64 % 2 == 1;
         let group = CommandGroup::from_bits(head / 8 % 4);
         let operation = operation_of(group, sub, flags % 16, compare, set);
-        let operand1 = Operand::decode(count >= 1, imm1, word_at(bytes, 4));
-        let operand2 = Operand::decode(count >= 2, imm2, word_at(bytes, 8));
+        let operand1 = Operand::decode(count >= 1, imm1, common::be32(bytes, 4));
+        let operand2 = Operand::decode(count >= 2, imm2, common::be32(bytes, 8));
         DecodedCommand {
             operand_count: count,
             group,

@@ -1,7 +1,6 @@
 -- Lines that are computed from their bytes. Assumes nothing.
 use mathlib.Core.Path.{_≡_, refl}
-use mathlib.Core.List.{List, [], _∷_}
-use Prim.Native.Nat.{ℕ}
+use mathlib.Core.List.{[], _∷_}
 use lib.ListN.{length}
 use Rattle.text.specs.Rules.{bytes, numeral}
 use Rattle.register_model.specs.Rules.{classOf}

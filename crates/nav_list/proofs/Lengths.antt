@@ -9,7 +9,7 @@ use lib.Dec.{T, eqb, leb, ltb, leb→le}
 use lib.ListN.{length, take, drop, getD, length-append}
 use lib.Seq.{take-at}
 use borrow.Author.Tests.{ltb-true, ltb-false, le-leb, lt-leb}
-use Rattle.laws.specs.Over.{over, over-zero}
+use Rattle.laws.specs.Over.{over-zero}
 use Rattle.error.specs.declared.Refusal.the-variants.{NoRoom}
 use Rattle.text.specs.Rules.{bytes, numeral, Wrote}
 use Rattle.text.specs.Laws.{few-digits, fitted}
@@ -22,8 +22,7 @@ use Rattle.nav_command.specs.declared.Operation.the-variants.{Branch, Compare, 
 use Rattle.nav_command.specs.declared.RegisterBank.the-variants.{Gpr, Psr, PsrSecondary}
 use Rattle.nav_command.specs.declared.Operand.{Operand}
 use Rattle.nav_command.specs.declared.Operand.the-variants.{Absent, Immediate, Register}
-use Rattle.nav_command.specs.Rules.{byteAt, wordAt, compares, branchRows, setRows, branchOf, compareOf, setOf, operationOf, groupOf, bankOf, operandOf, commandOf, numberOf}
-use Rattle.nav_encode.specs.Rules.{Twelve}
+use Rattle.nav_command.specs.Rules.{byteAt, wordAt, compares, branchRows, setRows, branchOf, compareOf, setOf, operationOf, groupOf, operandOf, commandOf, numberOf}
 use Rattle.nav_list.specs.declared.Line.{Line}
 use Rattle.nav_list.specs.declared.Listed.the-variants.{At, Refused}
 use Rattle.nav_list.specs.Rules.{unknownText, headText, immediateText, generalText, tickText, statusText, operandText, secondText, operandsText, lineOf, listing, listOf}

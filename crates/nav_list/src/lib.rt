@@ -4,7 +4,6 @@ ghost use Prim.Native.Nat.{_+_, _≤_, _<_};
 ghost use lib.ListN.{length};
 ghost use Rattle.text.specs.Rules.{Wrote};
 ghost use Rattle.register_model.specs.Rules.{classTable};
-ghost use Rattle.nav_command.specs.Rules.{wordAt};
 ghost use Rattle.nav_list.specs.Rules.{unknownText, tickText, statusText, lineOf, lineAt, listing, listOf};
 ghost use Rattle.nav_list.specs.Theorems.{LongestLine};
 ghost use Rattle.nav_list.specs.Numbers.{headBy, operandBy, lineBy, Lines};
@@ -130,23 +129,6 @@ fn line_of(command: DecodedCommand) -> Line
     }
 }
 
-fn wide(byte: u8) -> u32
-    ensures { λ r. ⌜ (r ≡ byte) × (r < 256) ⌝ }
-{
-    byte as u32
-}
-
-fn word_at(file: &[u8], from: usize) -> u32
-    requires { ⌜ from + 4 ≤ length (now file) ⌝ }
-    ensures { λ r. ⌜ r ≡ wordAt (now (file .entry)) from ⌝ }
-{
-    let a = wide(file[from]);
-    let b = wide(file[from + 1]);
-    let c = wide(file[from + 2]);
-    let d = wide(file[from + 3]);
-    a * 0x100_0000 + b * 0x1_0000 + c * 0x100 + d
-}
-
 // The numbers straight from the bytes, without a branch: those of random commands can't be predicted.
 fn line_at(file: &[u8], from: usize) -> Line
     requires { ⌜ from + 12 ≤ length (now file) ⌝ }
@@ -158,8 +140,12 @@ fn line_at(file: &[u8], from: usize) -> Line
     let set = file[from + 3];
     let count = byte / 32;
     let head = nav_numbers::operation_at(byte % 32, flags % 16, compare, set);
-    let first = nav_numbers::operand_at(count >= 1, flags / 128 == 1, word_at(file, from + 4));
-    let second = nav_numbers::operand_at(count >= 2, flags / 64 % 2 == 1, word_at(file, from + 8));
+    let first = nav_numbers::operand_at(count >= 1, flags / 128 == 1, common::be32(file, from + 4));
+    let second = nav_numbers::operand_at(
+        count >= 2,
+        flags / 64 % 2 == 1,
+        common::be32(file, from + 8),
+    );
     Line {
         head,
         first,

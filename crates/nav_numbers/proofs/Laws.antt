@@ -1,11 +1,11 @@
 -- The sheet read by its numbers, and commands and their numbers there and back. Assumes nothing.
 use mathlib.Core.Path.{_≡_, refl, sym, ap, _∙_}
 use mathlib.Core.Bool.{Bool, true, false, not}
-use mathlib.Core.List.{List, []}
+use mathlib.Core.List.{List}
 use Prim.Native.Nat.{ℕ, _-_, _%_, _≤_, _<_}
 use native.Mathlib.Nat.{mod-eq-of-lt}
 use native.Mathlib.Omega.{arith}
-use lib.Dec.{eqb, leb, ltb}
+use lib.Dec.{eqb, ltb}
 use lib.ListN.{length, getD}
 use lib.Seq.{ext-getD}
 use borrow.Author.Tests.{ltb-true, ltb-false, le-leb, lt-leb, eqb-true, eq-eqb}
@@ -188,7 +188,7 @@ abbrev whole : ℕ → CommandGroup → ℕ → Bool → Bool → Operation → 
 whole n g s i j o p q =
     record { «operand_count» = n; group = g; «sub_group» = s; «imm_op1» = i; «imm_op2» = j; operation = o; operand1 = p; operand2 = q }
 
-pub command-back : (c : DecodedCommand) → Typed c → commandNamed (commandNumbers c) ≡ c
+command-back : (c : DecodedCommand) → Typed c → commandNamed (commandNumbers c) ≡ c
 unfolding commandNamed commandNumbers
 command-back c t =
     let e1 : c .«operand_count» % 256 ≡ c .«operand_count» = mod-eq-of-lt (t .count) in
@@ -210,7 +210,7 @@ command-named c t =
     let e = command-back c t in
     record { back = e; are = all-made (sameAt (commandNumbers (commandNamed (commandNumbers c))) (commandNumbers c)) 13 (λ k h. eq-eqb _ _ (ap (λ (d : DecodedCommand). getD (commandNumbers d) k 0) e)) }
 
-pub numbers-thirteen : (c : DecodedCommand) → length (commandNumbers c) ≡ 13
+numbers-thirteen : (c : DecodedCommand) → length (commandNumbers c) ≡ 13
 unfolding commandNumbers
 numbers-thirteen c = refl
 

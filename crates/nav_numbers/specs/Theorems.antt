@@ -5,7 +5,7 @@ use mathlib.Core.List.{List}
 use Prim.Native.Nat.{ℕ, _<_}
 use lib.ListN.{length}
 use Rattle.nav_command.specs.declared.DecodedCommand.{DecodedCommand}
-use Rattle.nav_numbers.specs.Rules.{groupPair, unknownOf, operandPair, commandNumbers, commandNamed, isCommand}
+use Rattle.nav_numbers.specs.Rules.{groupPair, unknownOf, commandNumbers, commandNamed, isCommand}
 use Rattle.nav_command.specs.declared.Operand.{Operand}
 use Rattle.nav_command.specs.declared.Operand.the-variants.{Absent, Immediate, Register}
 

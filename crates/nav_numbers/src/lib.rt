@@ -9,14 +9,14 @@ ghost use Rattle.nav_numbers.specs.Pieces.{placeOf, rowOf, rowIn, Number
 ghost use Rattle.nav_numbers.specs.Theorems.{small, NumbersNameCommands};
 use common::number_at;
 use nav_command::BranchOp;
+use nav_command::COMPARES;
 use nav_command::CommandGroup;
-use nav_command::CompareOp;
 use nav_command::DecodedCommand;
 use nav_command::Operand;
 use nav_command::Operation;
 use nav_command::RegisterBank;
-use nav_command::SetOp;
-use nav_command::SystemOp;
+use nav_command::SETS;
+use nav_command::SYSTEMS;
 
 // A kind and its value: of a group, an operand, an option.
 pub struct Pair {
@@ -309,7 +309,7 @@ pub fn numbers_of(bytes: &[u8; 12]) -> [u32; 13]
     ]
 }
 
-// The sheet, by its four parts.
+// The three rows of branches, which stand first on the sheet.
 const BRANCHES: [BranchOp; 14] = [
     BranchOp::Nop,
     BranchOp::GoTo,
@@ -325,48 +325,6 @@ const BRANCHES: [BranchOp; 14] = [
     BranchOp::TerminatePL,
     BranchOp::LinkPI,
     BranchOp::LinkMK,
-];
-
-const COMPARES: [CompareOp; 7] = [
-    CompareOp::Bc,
-    CompareOp::Eq,
-    CompareOp::Ne,
-    CompareOp::Ge,
-    CompareOp::Gt,
-    CompareOp::Le,
-    CompareOp::Lt,
-];
-
-const SETS: [SetOp; 15] = [
-    SetOp::Move,
-    SetOp::Swap,
-    SetOp::Add,
-    SetOp::Sub,
-    SetOp::Mul,
-    SetOp::Div,
-    SetOp::Mod,
-    SetOp::Rnd,
-    SetOp::And,
-    SetOp::Or,
-    SetOp::Xor,
-    SetOp::BitSet,
-    SetOp::BitClear,
-    SetOp::ShiftLeft,
-    SetOp::ShiftRight,
-];
-
-const SYSTEMS: [SystemOp; 11] = [
-    SystemOp::SetStream,
-    SystemOp::SetNvTimer,
-    SystemOp::SetButtonPage,
-    SystemOp::EnableButton,
-    SystemOp::DisableButton,
-    SystemOp::SetSecondaryStream,
-    SystemOp::PopUpOff,
-    SystemOp::StillOn,
-    SystemOp::StillOff,
-    SystemOp::SetOutputMode,
-    SystemOp::SetStreamSS,
 ];
 
 pub fn low_byte(number: u32) -> u8

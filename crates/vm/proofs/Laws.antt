@@ -3,11 +3,13 @@ use mathlib.Core.Path.{_≡_, refl, sym, ap, _∙_}
 use mathlib.Core.Bool.{Bool, false}
 use mathlib.Core.List.{List, [], _∷_, map}
 use Prim.Native.Nat.{ℕ, zero, suc, _+_, _-_, _*_, _/_, _%_, _≤_, _<_}
+use native.Mathlib.Nat.{add-assoc}
 use native.Mathlib.Omega.{arith}
 use lib.ListN.{length, getD, set, List·getD-eq-default}
 use borrow.Author.Tests.{le-leb, lt-leb, ne-eqb}
+use Rattle.common.specs.Rules.{be4}
 use Rattle.registers.proofs.Laws.{NoneOf, beyond, from-one, sets-nothing}
-use Rattle.nav_command.specs.Rules.{byteAt, groupBits, subOf, groups, commandOf, gotos, jumps, plays, compares}
+use Rattle.nav_command.specs.Rules.{byteAt, wordAt, groupBits, subOf, groups, commandOf, gotos, jumps, plays, compares}
 use Rattle.nav_command.specs.Rules as nav
 use Rattle.nav_command.proofs.Laws.{no-row, no-row-1}
 use Rattle.nav_command.specs.declared.CommandGroup.the-variants.{Reserved}
@@ -32,6 +34,16 @@ use Rattle.error.specs.declared.Verdict.{Verdict}
 use Rattle.error.specs.declared.Verdict.the-variants as Fit
 use Rattle.vm.specs.Rules.{Banks, After, with, stepped, on, halted, execBranch, holdsFor, compareOf, systemOf, execSet, acted, execOf, fetched, stepOf, nextOf, ran, goesOn, runFrom, runOf, plain, plainly, answered}
 use Rattle.vm.specs.Pieces.{rawFirst, rawSecond, firstValue, secondValue, asBranch, asCompare, asSet, single}
+
+-- the operands' numbers
+module _ (cs : List ℕ) (at : ℕ) where
+  pub first-word : be4 cs (at + 4) ≡ wordAt (fetched cs at) 4
+  unfolding be4
+  first-word = simp add-assoc
+
+  pub second-word : be4 cs (at + 8) ≡ wordAt (fetched cs at) 8
+  unfolding be4
+  second-word = simp add-assoc
 
 -- branch options past the last of a row, and rows past the last
 module _ (option : ℕ) where

@@ -1,12 +1,12 @@
 -- What follows from the rules of one command and of a run, for the layers above. Assumes nothing.
-use mathlib.Core.Path.{_≡_, refl, sym, ap, _∙_}
+use mathlib.Core.Path.{_≡_}
 use mathlib.Core.Bool.{Bool, true, false, cond}
 use mathlib.Core.List.{List}
-use Prim.Native.Nat.{ℕ, zero, suc, _+_, _*_, _/_, _≤_, _<_}
+use Prim.Native.Nat.{ℕ, zero, suc, _+_, _*_, _/_, _≤_}
 use native.Mathlib.Omega.{arith}
 use lib.Dec.{eqb, leb, ltb}
 use lib.ListN.{length}
-use borrow.Author.Tests.{leb-true, leb-false, ltb-true}
+use borrow.Author.Tests.{leb-false, ltb-true}
 use Rattle.laws.specs.Cases.{either-way, by-test}
 use Rattle.nav_command.specs.Rules.{commandOf}
 pub use Rattle.registers.specs.Laws.{Unique, unique, Sized}
@@ -14,7 +14,6 @@ use Rattle.registers.specs.Laws.{sized-set, fine-bank}
 use Rattle.registers.specs.Rules.{bankOf}
 use Rattle.error.specs.Rules.{firstOf}
 use Rattle.error.specs.Laws.{both-fine}
-use Rattle.error.specs.declared.Verdict.{Verdict}
 use Rattle.error.specs.declared.Verdict.the-variants as Fit
 use Rattle.nav_command.specs.declared.BranchOp.{BranchOp}
 use Rattle.nav_command.specs.declared.BranchOp.the-variants as B
@@ -32,7 +31,7 @@ use Rattle.vm.specs.declared.Ran.{Ran}
 use Rattle.vm.specs.declared.Step.{Step}
 use Rattle.vm.specs.declared.Step.the-variants.{Continue, Skipped, Halted, Branch}
 use Rattle.vm.specs.declared.Stepped.{Stepped}
-use Rattle.vm.specs.Rules.{Banks, banks, After, with, valueOf, stepped, on, halted, goTo, branchOf, execBranch, holdsFor, compareOf, setOf, systemOf, execSet, acted, execOf, fetched, stepOf, nextOf, goesOn, runFrom, runOf, commandsOf, budgetOf, verdictOf, stepAnswer, runAnswer}
+use Rattle.vm.specs.Rules.{Banks, banks, After, with, valueOf, on, halted, goTo, branchOf, execBranch, holdsFor, compareOf, setOf, systemOf, execSet, acted, execOf, fetched, stepOf, nextOf, goesOn, runFrom, runOf, commandsOf, budgetOf, verdictOf, stepAnswer, runAnswer}
 
 -- Any two answers that a promise of the public calls allows are equal.
 
@@ -75,7 +74,7 @@ module _ (cs : List ℕ) (Keeps : ℕ → Banks → Type 0) (kept : (pc : ℕ) (
       turn (nextOf (stepOf cs pc s .answer .step)) (stepOf cs pc s) (steps + 1) (runFrom cs left (steps + 1)) (kept pc s h)
       (λ k. from left (steps + 1) k (stepOf cs pc s .answer .pc) (stepOf cs pc s .regs) (kept pc s h))
 
-  pub run-keeps : (left steps pc : ℕ) (s : Banks) → Keeps pc s → Left (runOf cs left steps pc s)
+  run-keeps : (left steps pc : ℕ) (s : Banks) → Keeps pc s → Left (runOf cs left steps pc s)
   unfolding runOf
   run-keeps left steps pc s h = from left steps false pc s h
 
@@ -208,16 +207,3 @@ module _ (cs : List ℕ) (Fit : Banks → Type 0) (kept : (pc : ℕ) (s : Banks)
   pub run-asks : (left steps pc : ℕ) (s : Banks) (q : NavRequest) → Fit s → runOf cs left steps pc s .answer .end ≡ E.Branch q → Asked q
   unfolding runOf
   run-asks left steps pc s q h e = asks left steps false pc s q h e
-
--- a step that asks for something obeyed a command that stands there
-pub step-asks : (cs : List ℕ) (pc : ℕ) (s : Banks) (q : NavRequest) → stepOf cs pc s .answer .step ≡ Branch q
-    → (pc < length cs / 12) × (execOf (commandOf (fetched cs (12 * pc))) (pc + 1) (length cs / 12) s .answer .step ≡ Branch q)
-unfolding stepOf
-step-asks cs pc s q e = by-test (leb (length cs / 12) pc) past obeyed where
-  past : leb (length cs / 12) pc ≡ true
-      → (pc < length cs / 12) × (execOf (commandOf (fetched cs (12 * pc))) (pc + 1) (length cs / 12) s .answer .step ≡ Branch q)
-  past h = let f : Halted ≡ Branch q = rw h at e in let z : _≡_ {A = ℕ} 0 1 = cc in absurd (omega arith)
-
-  obeyed : leb (length cs / 12) pc ≡ false
-      → (pc < length cs / 12) × (execOf (commandOf (fetched cs (12 * pc))) (pc + 1) (length cs / 12) s .answer .step ≡ Branch q)
-  obeyed h = (leb-false (length cs / 12) pc h, rw h at e)

@@ -32,6 +32,7 @@ use Rattle.vm.specs.declared.End.the-variants as E
 use Rattle.vm.specs.declared.Ran.{Ran}
 use Rattle.vm.specs.declared.Next.{Next}
 use Rattle.vm.specs.declared.Next.the-variants.{Go, Stop}
+use Rattle.vm.specs.declared.HdmvVm.{HdmvVm}
 use Rattle.vm.specs.declared.Answer.{Answer}
 use Rattle.vm.specs.declared.Answer.the-variants.{Done, Refused}
 
@@ -162,6 +163,10 @@ runFrom cs (suc left) steps skipped pc s =
 
 unfoldable pub runOf : List ℕ → ℕ → ℕ → ℕ → Banks → After Ran
 runOf cs left steps pc s = runFrom cs left steps false pc s
+
+-- A fresh machine: at its first command, with the default budget.
+abbrev pub fresh : HdmvVm
+fresh = record { pc = 0; budget = 1_000_000 }
 
 -- The public calls. Refusal 6: banks not 4,096 and 128 numbers, or commands not in whole twelves; then 7: a budget over
 -- 1,000,000. A refusal alters nothing.

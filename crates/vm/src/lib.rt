@@ -8,7 +8,7 @@ ghost use Rattle.nav_command.specs.Rules as nav;
 ghost use Rattle.registers.specs.Laws.{Full};
 ghost use Rattle.registers.specs.Rules.{banks};
 ghost use Rattle.vm.specs.Laws.{OneAnswer};
-ghost use Rattle.vm.specs.Rules.{after, on, halted, leaves, goTo, execBranch, holdsFor, compareOf, systemOf, execOf, fetched, stepOf, nextOf, runOf, commandsOf, budgetOf, verdictOf, stepAnswer, plain, runAnswer};
+ghost use Rattle.vm.specs.Rules.{after, on, halted, leaves, goTo, execBranch, holdsFor, compareOf, systemOf, execOf, fetched, stepOf, nextOf, runOf, fresh, commandsOf, budgetOf, verdictOf, stepAnswer, plain, runAnswer};
 ghost use Rattle.vm.specs.Pieces.{rawFirst, rawSecond, firstValue, secondValue, asBranch, asCompare, asSet, single};
 use error::Refusal;
 use error::Verdict;
@@ -206,20 +206,28 @@ fn system(code: u8, x: u32, y: u32, pc: usize) -> Stepped
     )
 }
 
+// The twelve bytes of a command.
+pub fn fetch(commands: &[u8], at: usize) -> [u8; 12]
+    requires { ⌜ at + 12 ≤ length (now commands) ⌝ }
+    ensures { λ r. ⌜ r ≡ fetched (now (commands .entry)) at ⌝ }
+{
+    [
+        commands[at],
+        commands[at + 1],
+        commands[at + 2],
+        commands[at + 3],
+        commands[at + 4],
+        commands[at + 5],
+        commands[at + 6],
+        commands[at + 7],
+        commands[at + 8],
+        commands[at + 9],
+        commands[at + 10],
+        commands[at + 11],
+    ]
+}
+
 // One command: the twelve bytes at a place, one of `count` commands, with pc already past it.
-
-fn wide(byte: u8) -> u32
-    ensures { λ r. ⌜ (r ≡ byte) × (r < 256) ⌝ }
-{
-    byte as u32
-}
-
-// The number of four bytes, the highest first.
-fn join(a: u8, b: u8, c: u8, d: u8) -> u32
-    ensures { λ r. ⌜ r ≡ a * 0x100_0000 + b * 0x1_0000 + c * 0x100 + d ⌝ }
-{
-    wide(a) * 0x100_0000 + wide(b) * 0x1_0000 + wide(c) * 0x100 + wide(d)
-}
 
 fn first(commands: &[u8], at: usize) -> Raw
     requires { ⌜ at + 12 ≤ length (now commands) ⌝ }
@@ -228,12 +236,7 @@ fn first(commands: &[u8], at: usize) -> Raw
     Raw {
         there: commands[at] / 32 >= 1,
         immediate: commands[at + 1] / 128 == 1,
-        word: join(
-            commands[at + 4],
-            commands[at + 5],
-            commands[at + 6],
-            commands[at + 7],
-        ),
+        word: common::be32(commands, at + 4),
     }
 }
 
@@ -244,12 +247,7 @@ fn second(commands: &[u8], at: usize) -> Raw
     Raw {
         there: commands[at] / 32 >= 2,
         immediate: commands[at + 1] / 64 % 2 == 1,
-        word: join(
-            commands[at + 8],
-            commands[at + 9],
-            commands[at + 10],
-            commands[at + 11],
-        ),
+        word: common::be32(commands, at + 8),
     }
 }
 
@@ -489,7 +487,7 @@ impl HdmvVm {
 
     // A machine at its first command.
     pub fn new() -> Self
-        ensures { λ r. ⌜ (r .pc ≡ 0) × (r .budget ≡ 1_000_000) ⌝ }
+        ensures { λ r. ⌜ r ≡ fresh ⌝ }
     {
         Self {
             pc: 0,

@@ -1,4 +1,4 @@
-use mathlib.Core.Path.{_≡_, refl, sym, ap, _∙_}
+use mathlib.Core.Path.{sym, _∙_}
 use borrow.Author.Needs.{needs}
 use Rattle.disc_check.specs.Rules.{checkOf}
 use Rattle.disc_check.proofs.check_with.Statement.{statement}

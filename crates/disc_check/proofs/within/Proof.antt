@@ -1,4 +1,4 @@
-use borrow.Author.Tests.{lt-ltb, le-ltb, le-leb, lt-leb}
+use borrow.Author.Tests.{lt-ltb, le-ltb}
 use Rattle.disc_check.specs.Rules.{registerReach}
 use Rattle.disc_check.proofs.within.Statement.{statement}
 use Rattle.disc_check.proofs.within.Tie as tie

@@ -1,6 +1,5 @@
 -- `command_length` is the length of the line, which stands whole in the local array. Assumes nothing.
-use mathlib.Core.Path.{refl, sym, ap}
-use lib.Seq.{length-take-le}
+use mathlib.Core.Path.{refl}
 use borrow.Author.Needs.{needs}
 use Rattle.nav_list.proofs.Lengths.{made}
 use Rattle.nav_list.proofs.command_length.Statement.{statement}

@@ -1,5 +1,5 @@
 -- `put_command` writes the line of the bytes, which stands whole in the local array. Assumes nothing.
-use mathlib.Core.Path.{refl, sym, ap}
+use mathlib.Core.Path.{refl, sym}
 use native.Mathlib.Omega.{arith}
 use lib.Seq.{length-take-le}
 use borrow.Author.Needs.{needs}
