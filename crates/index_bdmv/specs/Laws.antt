@@ -22,7 +22,6 @@ use Rattle.error.specs.declared.Verdict.{Verdict}
 use Rattle.error.specs.declared.Verdict.the-variants.{Fine, Refused}
 use Rattle.utf8.specs.Rules.{isUtf8}
 use Rattle.index_bdmv.specs.Rules.{indx, appInfoVerdict, nameAt, entryVerdict, entriesVerdict, startOf, statedVerdict, titlesVerdict, indexesVerdict, verdictOf, titleCount, placeOf}
-use Rattle.index_bdmv.specs.declared.Place.{Place}
 use Rattle.index_bdmv.specs.declared.Place.the-variants.{At, Nowhere}
 
 -- ---- tests in their order
@@ -39,7 +38,7 @@ no-fine false a b r n e = (refl, e)
 
 -- ---- entries
 
-pub entry-in : (s : List ℕ) (at : ℕ) → entryVerdict s at ≡ Fine → at + 12 ≤ length s
+entry-in : (s : List ℕ) (at : ℕ) → entryVerdict s at ≡ Fine → at + 12 ≤ length s
 unfolding entryVerdict
 entry-in s at e = leb-true _ _ (yes-fine (leb (at + 12) (length s)) _ (Refused BadBody) BadBody refl e .0)
 

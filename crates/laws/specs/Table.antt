@@ -1,5 +1,5 @@
 -- A table that lists a rule: equal to the rule at each place, once the whole table is computed from it. Assumes nothing.
-use mathlib.Core.Path.{_≡_, refl, ap, _∙_, sym}
+use mathlib.Core.Path.{_≡_, ap, _∙_, sym}
 use mathlib.Core.List.{List, [], _∷_}
 use Prim.Native.Nat.{ℕ, zero, suc, _+_, _<_}
 use native.Mathlib.Nat.{add-zero, zero-add, add-suc, suc-add}

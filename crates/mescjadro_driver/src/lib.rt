@@ -1,7 +1,6 @@
 // The driver for C. It is an archive member of its own, so that each holds one copy of the machine's run, within its own drive.
 use error::Refusal;
 use nav_driver::DriveAnswer;
-use nav_driver::DriveEnd;
 ghost use mathlib.Core.Path.{_≡_};
 ghost use lib.ListN.{length};
 ghost use Rattle.vm.specs.Rules.{banks};

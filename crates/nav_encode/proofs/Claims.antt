@@ -1,8 +1,8 @@
 -- The four theorems on encoding and decoding. Assumes nothing.
 use mathlib.Core.Path.{_≡_, _∙_, refl, sym, ap, subst}
 use mathlib.Core.Bool.{Bool, true, false}
-use mathlib.Core.List.{List, [], _∷_, _++_}
-use Prim.Native.Nat.{ℕ, zero, suc, _+_, _*_, _/_, _%_, _<_, _≤_}
+use mathlib.Core.List.{List, [], _∷_}
+use Prim.Native.Nat.{ℕ, zero, suc, _<_}
 use native.Mathlib.Omega.{arith}
 use lib.Dec.{leb}
 use lib.ListN.{length, take, drop, getD, drop-of-length-le}
@@ -15,8 +15,8 @@ use Rattle.nav_command.specs.declared.CommandGroup.{CommandGroup}
 use Rattle.nav_command.specs.declared.CommandGroup.the-variants as G
 use Rattle.nav_command.specs.declared.DecodedCommand.{DecodedCommand}
 use Rattle.nav_command.specs.Rules.{byteAt, commandOf}
-use Rattle.nav_encode.specs.Rules.{Twelve, cleared, bitOf, bitsOf, optionOf, compareByte, setByte, codeOf, bytesOf, encodable, encoding, encodeOf}
-use Rattle.nav_encode.specs.Theorems.{encoded, Returns, DecodesBack, EncodesBack, NoneDecode, RefusedIfNone, IgnoredBits}
+use Rattle.nav_encode.specs.Rules.{Twelve, cleared, bitsOf, optionOf, compareByte, setByte, codeOf, bytesOf, encodable, encoding, encodeOf}
+use Rattle.nav_encode.specs.Theorems.{encoded, DecodesBack, EncodesBack, NoneDecode, RefusedIfNone, IgnoredBits}
 use Rattle.nav_encode.proofs.Equal.{same-eq, same-refl}
 use Rattle.nav_encode.proofs.Round.{kept, again, bit-small}
 

@@ -1,7 +1,7 @@
 -- Two commands whose fields are the same as numbers are equal: a value of each enum is got back from its key. Assumes nothing.
 use mathlib.Core.Path.{_≡_, _∙_, refl, sym, ap}
 use mathlib.Core.Bool.{Bool, true, false, _&&_}
-use mathlib.Core.List.{List, [], _∷_}
+use mathlib.Core.List.{[], _∷_}
 use Prim.Native.Nat.{ℕ}
 use lib.Dec.{eqb}
 use lib.ListN.{getD}
@@ -14,7 +14,6 @@ use Rattle.nav_command.specs.declared.Operation.{Operation}
 use Rattle.nav_command.specs.declared.Operation.the-variants.{Branch, Compare, Set, System, Unknown}
 use Rattle.nav_command.specs.declared.CommandGroup.{CommandGroup}
 use Rattle.nav_command.specs.declared.CommandGroup.the-variants as G
-use Rattle.nav_command.specs.declared.RegisterBank.{RegisterBank}
 use Rattle.nav_command.specs.declared.RegisterBank.the-variants.{Gpr, Psr, PsrSecondary}
 use Rattle.nav_command.specs.declared.Operand.{Operand}
 use Rattle.nav_command.specs.declared.Operand.the-variants.{Absent, Immediate, Register}

@@ -1,22 +1,20 @@
 -- Twelve bytes, decoded and laid out again: the same with the ignored bits cleared, and they decode to the same command.
 -- Assumes nothing.
 use mathlib.Core.Path.{_≡_, _∙_, refl, sym, ap}
-use mathlib.Core.Bool.{Bool, true, false, cond}
+use mathlib.Core.Bool.{Bool, true, false}
 use mathlib.Core.List.{List, [], _∷_, _++_}
 use Prim.Native.Nat.{ℕ, zero, suc, _+_, _*_, _/_, _%_, _<_, _≤_}
 use native.Mathlib.Nat.{add-zero, div-div-eq-div-mul}
 use native.Mathlib.Omega.{arith}
 use lib.Bits.{bitAnd}
 use lib.Dec.{eqb, leb, ltb}
-use lib.ListN.{length, getD}
 use borrow.Author.Tests.{lt-ltb, le-ltb, ltb-true, ltb-false}
 use Rattle.laws.specs.Table.{listed, at}
 use Rattle.nav_command.specs.declared.RegisterBank.{RegisterBank}
 use Rattle.nav_command.specs.declared.RegisterBank.the-variants.{Gpr, Psr, PsrSecondary}
-use Rattle.nav_command.specs.declared.Operand.the-variants.{Absent, Immediate, Register}
 use Rattle.nav_command.specs.declared.DecodedCommand.{DecodedCommand}
 use Rattle.nav_command.specs.Rules.{operationOf, groupOf, bankOf, operandOf, commandOf}
-use Rattle.nav_encode.specs.Rules.{codeMask, bankMask, operandMask, maskOf, masked, cleared, codeOf, bitOf, bitsOf, optionOf, compareByte, setByte, bankBits, wordOf, wordBytes, bytesOf}
+use Rattle.nav_encode.specs.Rules.{codeMask, bankMask, operandMask, masked, cleared, codeOf, bitOf, bitsOf, optionOf, compareByte, setByte, bankBits, wordOf, wordBytes, bytesOf}
 use Rattle.nav_encode.proofs.Codes.{branch-code, compare-code, set-code}
 
 -- a byte and a mask, as numbers: computed for every byte

@@ -6,7 +6,7 @@ use Prim.Native.Nat.{ℕ, zero, suc, _+_, _*_, _/_, _%_, _<_}
 use mathlib.Core.Path.{_≡_}
 use lib.Bits.{bitAnd}
 use lib.Dec.{eqb, leb, ltb}
-use lib.ListN.{length, getD}
+use lib.ListN.{length}
 use Rattle.laws.specs.Over.{over}
 use Rattle.error.specs.declared.Refusal.the-variants.{NoRoom, NotEncodable}
 use Rattle.error.specs.declared.Verdict.{Verdict}

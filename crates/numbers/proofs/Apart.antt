@@ -3,7 +3,6 @@ use mathlib.Core.Path.{_≡_, refl, sym, ap, _∙_}
 use mathlib.Core.List.{List, [], _∷_}
 use Prim.Native.Nat.{ℕ}
 use lib.ListN.{getD}
-use Rattle.nav_command.specs.declared.Operation.{Operation}
 use Rattle.nav_command.specs.declared.Operation.the-variants.{Branch, Compare, Set, System, Unknown}
 use Rattle.nav_command.specs.declared.SystemOp.the-variants as Y
 use Rattle.nav_numbers.specs.Rules.{sheetNamed}

@@ -1,6 +1,5 @@
 -- That the numbers of requests and outcomes tell them apart. Assumes nothing.
 use mathlib.Core.Path.{_≡_}
-use Prim.Native.Nat.{ℕ}
 use Rattle.nav_command.specs.declared.Operation.{Operation}
 use Rattle.nav_command.specs.declared.Operation.the-variants.{Branch, Compare, Set, System, Unknown}
 use Rattle.vm.specs.declared.NavRequest.{NavRequest}

@@ -1,7 +1,7 @@
 -- The class table at each place, and how many registers each class has. Assumes nothing.
-use mathlib.Core.Path.{_≡_, refl, sym, ap, _∙_}
-use mathlib.Core.Bool.{Bool, true, false}
-use mathlib.Core.List.{List, [], _∷_}
+use mathlib.Core.Path.{_≡_, refl, ap, _∙_}
+use mathlib.Core.Bool.{true, false}
+use mathlib.Core.List.{List}
 use Prim.Native.Nat.{ℕ, _≤_, _<_}
 use native.Mathlib.Omega.{arith}
 use lib.Dec.{eqb}
@@ -29,7 +29,7 @@ named PlayerSetting = refl
 named Reserved = refl
 
 -- a class of number 0 is one that commands may write
-pub zero-writes : (k : PsrClass) → eqb (classNumber k) 0 ≡ mayWrite k
+zero-writes : (k : PsrClass) → eqb (classNumber k) 0 ≡ mayWrite k
 zero-writes (PlaybackStatus false) = refl
 zero-writes (PlaybackStatus true) = refl
 zero-writes PlayerSetting = refl

@@ -1,7 +1,7 @@
 -- The laws of operands and of Set commands: how what the calls promise makes what the rules say. Assumes nothing.
 use mathlib.Core.Path.{_≡_, refl, sym, ap, _∙_}
 use mathlib.Core.Bool.{Bool, true, false, cond}
-use mathlib.Core.List.{List, [], _∷_, map}
+use mathlib.Core.List.{List, _∷_, map}
 use Prim.Native.Nat.{ℕ, zero, suc, _+_, _%_, _≤_, _<_}
 use native.Mathlib.Omega.{arith}
 use lib.Dec.{ltb}
@@ -45,11 +45,11 @@ past-sets code r = from-one (map Set nav.sets) code (Unknown 0 code) (beyond 1 1
 -- Operands.
 
 module _ (w : ℕ) where
-  pub general-word : w < 0x8000_0000 → operandOf true false w ≡ Register Gpr (w % 4096)
+  general-word : w < 0x8000_0000 → operandOf true false w ≡ Register Gpr (w % 4096)
   unfolding operandOf
   general-word h = rw (lt-ltb w 0x8000_0000 h)
 
-  pub status-word : 0x8000_0000 ≤ w → operandOf true false w ≡ Register (cond (ltb w 0xC000_0000) Psr PsrSecondary) (w % 4096)
+  status-word : 0x8000_0000 ≤ w → operandOf true false w ≡ Register (cond (ltb w 0xC000_0000) Psr PsrSecondary) (w % 4096)
   unfolding operandOf
   status-word h = rw (le-ltb w 0x8000_0000 h)
 
@@ -146,7 +146,7 @@ module _ (op : Operation) (b : Operand) (x y : ℕ) (s : Banks) where
   unfolding setOf
   sets-none a h = rw h
 
-  pub sets-named : (a : Operand) {t : Banks} → names a ≡ true → t ≡ applied (effectFor op x y) a b x y s → t ≡ setOf op a b x y s
+  sets-named : (a : Operand) {t : Banks} → names a ≡ true → t ≡ applied (effectFor op x y) a b x y s → t ≡ setOf op a b x y s
   unfolding setOf
   sets-named a h e = e ∙ rw h
 

@@ -1,6 +1,5 @@
 // What a drive is handed and hands back: the session, its budgets and its lent frames; no module of the Rust has it alone.
 ghost use mathlib.Core.Path.{_≡_};
-ghost use mathlib.Core.Bool.{Bool};
 ghost use lib.ListN.{set};
 ghost use Rattle.session.specs.Rules.{fresh, defaults, objectFrame, pushedObject, titleFrame, pushedTitle, buffersVerdict, budgetsVerdict, entryVerdict, objectsLive, titlesLive, liveVerdict, sessionVerdict};
 use common::number_at;

@@ -106,8 +106,8 @@ all-lows (suc k) base n b h = lows-in (ltb n base) base n (numeralIn k base (n /
 -- What the loop that fills a numeral in from its end keeps: the first k digits are still to come, and those after them stand.
 pub record Filled (base n : ℕ) (l : List ℕ) (at : ℕ) (m : List ℕ) (k left : ℕ) : Type 0 where
   pub inside : k ≤ length (numeral base n)
-  pub coming : lows k base left ≡ take k (numeral base n)
-  pub standing : m ≡ sets l (at + k) (drop k (numeral base n))
+  coming : lows k base left ≡ take k (numeral base n)
+  standing : m ≡ sets l (at + k) (drop k (numeral base n))
   pub long : length m ≡ length l
 
 pub fill-starts : (base n : ℕ) (l : List ℕ) (at k : ℕ) → 1 < base → n < 2 ^ 32 → k ≡ length (numeral base n) → Filled base n l at l k n

@@ -1,6 +1,6 @@
 -- Laws of numerals, and of texts written one after another. Assumes nothing.
 use mathlib.Core.Path.{_≡_, refl, sym, ap, _∙_}
-use mathlib.Core.Bool.{Bool, true, false, cond}
+use mathlib.Core.Bool.{Bool, true, false}
 use mathlib.Core.List.{List, [], _∷_, _++_}
 use Prim.Native.Nat.{ℕ, zero, suc, _+_, _-_, _*_, _/_, _%_, _^_, _≤_, _<_}
 use native.Mathlib.Nat.{add-zero, add-assoc, one-mul, div-le-self, div-lt-iff-lt-mul, lt-of-lt-of-le, lt-of-le-of-lt, mul-le-mul-left, pow-zero, pow-suc}

@@ -4,11 +4,6 @@ use lib.ListN.{length-replicate}
 use borrow.Author.Needs.{needs}
 use Rattle.disc.proofs.main.Statement.{statement}
 use Rattle.disc.proofs.main.Tie as tie
-use Rattle.disc.proofs.main.Reads as reads
-use Rattle.disc.proofs.main.Lts as lts
-use Rattle.console.proofs.say.Reads as say-reads
-use Rattle.disc.proofs.with_index.Reads as with-index-reads
-use Rattle.os.proofs.arg_count.Reads as arg-count-reads
 
 -- src/main.rt:16:8
 arg-count-requires : tie.Need-arg-count-requires

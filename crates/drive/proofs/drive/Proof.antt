@@ -2,15 +2,6 @@ use mathlib.Core.Path.{_∙_}
 use borrow.Author.Needs.{needs}
 use Rattle.drive.proofs.drive.Statement.{statement}
 use Rattle.drive.proofs.drive.Tie as tie
-use Rattle.drive.proofs.drive.Reads as reads
-use Rattle.drive.proofs.drive.Lts as lts
-use Rattle.console.proofs.say.Reads as say-reads
-use Rattle.drive.proofs.print_answer.Reads as print-answer-reads
-use Rattle.drive.proofs.print_entry.Reads as print-entry-reads
-use Rattle.drive.proofs.print_last.Reads as print-last-reads
-use Rattle.drive.proofs.resume_all.Reads as resume-all-reads
-use Rattle.nav_driver.proofs.run.Reads as run-reads
-use Rattle.session.proofs.Session.new.Reads as new-reads
 
 -- src/main.rt:245:9
 new-requires : tie.Need-new-requires

@@ -4,10 +4,6 @@ use lib.ListN.{length}
 use borrow.Author.Needs.{needs}
 use Rattle.drive.proofs.read_options.Statement.{statement}
 use Rattle.drive.proofs.read_options.Tie as tie
-use Rattle.drive.proofs.read_options.Reads as reads
-use Rattle.drive.proofs.read_options.Lts as lts
-use Rattle.drive.proofs.read_option.Reads as read-option-reads
-use Rattle.os.proofs.arg_count.Reads as arg-count-reads
 
 abbrev Inv-loop : tie.InvT-loop
 Inv-loop gpr₀ psr₀ options₀ count k₀ gpr psr options k =

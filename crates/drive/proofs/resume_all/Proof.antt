@@ -4,12 +4,6 @@ use lib.ListN.{length}
 use borrow.Author.Needs.{needs}
 use Rattle.drive.proofs.resume_all.Statement.{statement}
 use Rattle.drive.proofs.resume_all.Tie as tie
-use Rattle.drive.proofs.resume_all.Reads as reads
-use Rattle.drive.proofs.resume_all.Lts as lts
-use Rattle.console.proofs.say.Reads as say-reads
-use Rattle.console.proofs.say_number.Reads as say-number-reads
-use Rattle.drive.proofs.print_answer.Reads as print-answer-reads
-use Rattle.nav_driver.proofs.resume.Reads as resume-reads
 
 abbrev Inv-loop : tie.InvT-loop
 Inv-loop index file gpr₀ psr₀ frames₀ titles₀ b resumes last₀ k₀ t17 gpr psr frames titles last k =

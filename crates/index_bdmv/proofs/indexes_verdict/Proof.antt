@@ -1,10 +1,10 @@
 -- The tests in their order, each rewritten by what it found. Assumes nothing.
-use mathlib.Core.Path.{_≡_, sym, _∙_}
-use Prim.Native.Nat.{_+_, _*_}
+use mathlib.Core.Path.{_≡_, _∙_}
+use Prim.Native.Nat.{_+_}
 use borrow.Author.Needs.{needs}
 use Rattle.error.specs.declared.Verdict.the-variants.{Fine}
 use Rattle.index_bdmv.specs.Laws.{moved-to, moved-refused, stated-bad, titles-from}
-use Rattle.index_bdmv.specs.Rules.{startOf, statedVerdict, entriesVerdict, indexesVerdict}
+use Rattle.index_bdmv.specs.Rules.{startOf, statedVerdict, indexesVerdict}
 use denote.Ref.{now}
 use Rattle.index_bdmv.proofs.indexes_verdict.Statement.{statement}
 use Rattle.index_bdmv.proofs.indexes_verdict.Tie as tie

@@ -1,9 +1,7 @@
 -- `encode` ends in one of three ways: encoded, no room, not encodable. Assumes nothing.
-use mathlib.Core.Path.{_≡_, ap, _∙_}
 use native.Mathlib.Omega.{arith}
 use borrow.Author.Needs.{needs}
-use borrow.Author.Tests.{le-leb, lt-leb}
-use Rattle.nav_encode.specs.Rules.{encodable, encodeOf}
+use Rattle.nav_encode.specs.Rules.{encodable}
 use Rattle.nav_encode.proofs.Laws.{long, encoded, no-room, not-encodable}
 use Rattle.nav_encode.proofs.encode.Statement.{statement}
 use Rattle.nav_encode.proofs.encode.Tie as tie

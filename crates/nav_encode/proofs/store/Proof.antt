@@ -1,8 +1,8 @@
 -- `store` lays the twelve bytes over the room: after i turns the first i of them stand there. Assumes nothing.
 use mathlib.Core.Path.{_≡_, refl, sym, ap, _∙_}
-use Prim.Native.Nat.{ℕ, _+_, _-_, _≤_}
+use Prim.Native.Nat.{_-_, _≤_}
 use native.Mathlib.Omega.{arith}
-use lib.ListN.{length, take, getD}
+use lib.ListN.{length, take}
 use lib.ListN.{length-set}
 use lib.Seq.{take-all}
 use Rattle.laws.specs.Over.{over, over-nil}

@@ -1,5 +1,4 @@
 -- `word_of` is the rule's word of each kind of operand. Assumes nothing.
-use mathlib.Core.Path.{_≡_}
 use borrow.Author.Needs.{needs}
 use Rattle.nav_encode.proofs.word_of.Statement.{statement}
 use Rattle.nav_encode.proofs.word_of.Tie as tie

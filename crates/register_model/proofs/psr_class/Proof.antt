@@ -1,6 +1,5 @@
 -- The table's number names the class. Assumes nothing.
 use native.Mathlib.Omega.{arith}
-use mathlib.Core.Path.{_∙_, ap}
 use borrow.Author.Needs.{needs}
 use Rattle.register_model.specs.Laws.{class-there, class-not-there}
 use Rattle.register_model.proofs.psr_class.Statement.{statement}

@@ -1,8 +1,8 @@
 -- `copy` lays the bytes over the room: after i turns the first i of them stand there. Assumes nothing.
 use mathlib.Core.Path.{_≡_, refl, ap, _∙_}
-use Prim.Native.Nat.{_+_, _-_, _≤_}
+use Prim.Native.Nat.{_-_, _≤_}
 use native.Mathlib.Omega.{arith}
-use lib.ListN.{length, take, getD, length-set}
+use lib.ListN.{length, take, length-set}
 use lib.Seq.{sets, take-all}
 use Rattle.text.proofs.Laws.{copied}
 use Rattle.text.proofs.copy.Statement.{statement}

@@ -1,9 +1,8 @@
 -- `put_blanks` writes as many blanks as it was asked for: after i turns i of them stand there. Assumes nothing.
-use mathlib.Core.Path.{_≡_, refl, ap, _∙_}
-use Prim.Native.Nat.{_+_, _-_, _≤_}
+use mathlib.Core.Path.{_≡_, refl, _∙_}
+use Prim.Native.Nat.{_-_, _≤_}
 use native.Mathlib.Omega.{arith}
-use lib.ListN.{length, take, getD, length-set}
-use lib.Seq.{sets, take-all}
+use lib.ListN.{length}
 use Rattle.text.specs.Laws.{nothing}
 use Rattle.text.specs.Rules.{Wrote, blanks}
 use Rattle.text.proofs.Laws.{blanked}

@@ -1,9 +1,9 @@
 -- `put_tested` writes byte by byte: after i turns the first i of them stand there. Assumes nothing.
-use mathlib.Core.Path.{_≡_, refl, ap, _∙_}
-use Prim.Native.Nat.{_+_, _-_, _≤_}
+use mathlib.Core.Path.{_≡_, refl, _∙_}
+use Prim.Native.Nat.{_-_, _≤_}
 use native.Mathlib.Omega.{arith}
-use lib.ListN.{length, take, getD, length-set}
-use lib.Seq.{sets, take-all}
+use lib.ListN.{length, take}
+use lib.Seq.{take-all}
 use Rattle.text.specs.Laws.{nothing}
 use Rattle.text.specs.Rules.{Wrote}
 use Rattle.text.proofs.Laws.{tested}
