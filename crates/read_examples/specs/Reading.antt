@@ -1,8 +1,10 @@
 -- Examples of big-endian reads and of the header (document 01, module 2 and "Numbers and bounds"). Assumes nothing.
 use mathlib.Core.Path.{_≡_, refl}
+use mathlib.Core.Bool.{true, false}
 use mathlib.Core.List.{List, [], _∷_}
 use Prim.Native.Nat.{ℕ, _+_, _-_}
-use lib.ListN.{replicate}
+use lib.ListN.{getD, replicate}
+use Rattle.laws.specs.Firsts.{all, allBelow}
 use Rattle.error.specs.declared.Refusal.the-variants.{BadHeader, BadBody}
 use Rattle.error.specs.declared.Verdict.the-variants as verdict
 use Rattle.common.specs.declared.Moved.the-variants as moved
@@ -14,6 +16,10 @@ use Rattle.common.specs.Rules.{be2, be4, reader, seekOf, readU8, readU16, readU
 -- six bytes
 abbrev six : List ℕ
 six = 1 ∷ 2 ∷ 3 ∷ 4 ∷ 5 ∷ 6 ∷ []
+
+-- two numbers, the second the largest
+abbrev two : List ℕ
+two = 7 ∷ 0xFFFF_FFFF ∷ []
 
 -- MOBJ, as a number and at the front of so many bytes
 abbrev mobj : ℕ
@@ -33,6 +39,10 @@ seek-past-the-end = refl
 -- A skip goes on from the position.
 skip-of-3-from-2 : seekOf six (reader 2 .pos + 3) ≡ moved.To (reader 5)
 skip-of-3-from-2 = refl
+
+-- A skip to the end is allowed, one past it refused.
+skips-of-4-and-5-from-2 : seekOf six (reader 2 .pos + 4) ∷ seekOf six (reader 2 .pos + 5) ∷ [] ≡ moved.To (reader 6) ∷ moved.Refused BadBody ∷ []
+skips-of-4-and-5-from-2 = refl
 
 -- A read that passes the end is refused.
 byte-past-the-end : readU8 six 6 ≡ byte.Refused BadBody
@@ -54,3 +64,19 @@ word-at-1 = refl
 lengths-39-and-40 : headerOf mobj (fileOf 39) ∷ headerOf mobj (fileOf 40) ∷ [] ≡ verdict.Refused BadHeader ∷ verdict.Fine ∷ []
 unfolding be4 headerOf
 lengths-39-and-40 = refl
+
+-- Without a position, places count from 0, and past the end stands 0: bytes, numbers, and halves of which a byte is there.
+bytes-5-and-6 : getD six 5 0 ∷ getD six 6 0 ∷ [] ≡ 6 ∷ 0 ∷ []
+bytes-5-and-6 = refl
+
+numbers-1-and-2 : getD two 1 0 ∷ getD two 2 0 ∷ [] ≡ 0xFFFF_FFFF ∷ 0 ∷ []
+numbers-1-and-2 = refl
+
+half-cut-by-the-end : be2 six 5 ≡ 0x0600
+unfolding be2
+half-cut-by-the-end = refl
+
+-- A flag of 2 doesn't fit its bit (9 not encodable).
+flags : allBelow 2 (0 ∷ 1 ∷ []) 2 ∷ allBelow 2 (0 ∷ 2 ∷ 1 ∷ []) 3 ∷ [] ≡ true ∷ false ∷ []
+unfolding all allBelow
+flags = refl

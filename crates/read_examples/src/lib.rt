@@ -1,1 +1,1 @@
-// Examples of reading and of text, in specs/; it has no code, and no counterpart in the Rust.
+// Examples of reading, of text and of lent arrays, in specs/; it has no code, and no counterpart in the Rust.
