@@ -26,7 +26,7 @@ command w x y = wordBytes w ++ (wordBytes x ++ wordBytes y)
 abbrev pub p2 : List ℕ
 p2 = command 0x5040_0001 5 0x10
 
-abbrev move : DecodedCommand
+abbrev pub move : DecodedCommand
 move =
     record {
       «operand_count» = 2;

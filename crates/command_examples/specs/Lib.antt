@@ -1,2 +1,4 @@
 pub mod Commands
+pub mod Numbers
+pub mod Classes
 pub mod Lines

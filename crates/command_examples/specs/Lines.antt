@@ -2,17 +2,19 @@
 use mathlib.Core.Path.{_≡_, refl}
 use mathlib.Core.List.{List, _++_}
 use Prim.Native.Nat.{ℕ}
+use Rattle.laws.specs.Over.{over}
 use Rattle.error.specs.declared.Refusal.the-variants.{NoRoom}
 use Rattle.text.specs.Rules.{bytes, numeral}
 use Rattle.register_model.specs.Rules.{classOf}
 use Rattle.register_model.specs.Names.{nameOf}
 use Rattle.nav_command.specs.declared.BranchOp.the-variants.{CallTitle}
-use Rattle.nav_command.specs.declared.Operation.the-variants.{Branch}
+use Rattle.nav_command.specs.declared.SetOp.the-variants.{ShiftRight}
+use Rattle.nav_command.specs.declared.Operation.the-variants.{Branch, Set}
 use Rattle.nav_command.specs.Rules.{branchOf, setOf, operandOf, numberOf, commandOf}
 use Rattle.nav_names.specs.Rules.{mnemonic, nameText}
 use Rattle.nav_list.specs.declared.Listed.the-variants as listed
 use Rattle.nav_list.specs.Rules.{unknownText, immediateText, generalText, statusText, lineOf, lineAt, listing, listOf}
-use Rattle.command_examples.specs.Commands.{command, p2}
+use Rattle.command_examples.specs.Commands.{command, p2, move}
 
 -- room for twelve bytes of text
 abbrev room : List ℕ
@@ -23,10 +25,19 @@ call-title : mnemonic (numberOf (Branch CallTitle)) ≡ bytes "CallTitle"
 unfolding mnemonic
 call-title = refl
 
+shift-right : mnemonic (numberOf (Set ShiftRight)) ≡ bytes "ShiftRight"
+unfolding mnemonic
+shift-right = refl
+
 -- A status register is followed by its name.
 title-number : nameText 4 ≡ bytes "(Title)"
 unfolding classOf nameOf nameText
 title-number = refl
+
+-- Reserved registers list without a name.
+reserved-register : nameText 21 ≡ bytes ""
+unfolding classOf nameText
+reserved-register = refl
 
 -- An unknown code is listed with its sub-group.
 unknown-code : lineAt (command 0x030A_0000 0 0) 0 ≡ bytes "Unknown(sub_grp=3,sel=0xA)"
@@ -42,3 +53,8 @@ protected-register = refl
 twelve-bytes : listOf room 0 (lineAt p2 0) ≡ listing (listed.Refused NoRoom) room
 unfolding numeral setOf operandOf commandOf mnemonic immediateText generalText lineOf lineAt listOf
 twelve-bytes = refl
+
+-- The line goes from a place on, and all else stays; the place after it is told.
+listed-from-2 : listOf (bytes "..................") 2 (lineOf move) ≡ listing (listed.At 15) (bytes "..Move r5, 0x10...")
+unfolding over numeral mnemonic immediateText generalText lineOf listOf
+listed-from-2 = refl

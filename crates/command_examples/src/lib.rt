@@ -1,1 +1,2 @@
-// Examples of decoding, encoding and listing a command, in specs/; it has no code, and no counterpart in the Rust.
+// Examples of decoding, encoding, numbering and listing a command, and of the status registers' classes, in specs/; it has no
+// code, and no counterpart in the Rust.
