@@ -9,16 +9,17 @@ use Rattle.error.specs.declared.Refusal.the-variants.{BadBody, BadEntry, NotEnc
 use Rattle.error.specs.declared.Verdict.the-variants.{Fine, Refused}
 use Rattle.utf8.specs.Rules.{lead4, lead3, leadOf, stepOf, scanOf, isUtf8}
 use Rattle.index_bdmv.specs.declared.AppInfoBdmv.{AppInfoBdmv}
-use Rattle.index_bdmv.specs.declared.IndexObjectType.the-variants.{Hdmv}
+use Rattle.index_bdmv.specs.declared.IndexObjectType.the-variants.{Hdmv, BdJ}
+use Rattle.index_bdmv.specs.declared.Parsed.the-variants as parsed
 use Rattle.index_bdmv.specs.declared.IndexEntry.the-variants as entry
 use Rattle.index_bdmv.specs.declared.Lead.the-variants as lead
 use Rattle.index_bdmv.specs.declared.Resolved.the-variants as resolved
-use Rattle.index_bdmv.specs.Rules.{appInfoVerdict, entryVerdict, entriesVerdict, startOf, statedVerdict, titlesVerdict, indexesVerdict, verdictOf, titleCount, placeOf, resolveOf, objectAt, entryOf, resolveMovieObject, nameOf}
+use Rattle.index_bdmv.specs.Rules.{appInfoVerdict, appInfoOf, entryVerdict, entriesVerdict, startOf, statedVerdict, titlesVerdict, indexesVerdict, verdictOf, titleCount, placeOf, resolveOf, objectAt, indexOf, parseOf, entryOf, resolveMovieObject, nameOf}
 use Rattle.index_bdmv_write.specs.Rules.{Entries, entries, nameGiven, titlesOf, tailBytes, entryBytes, entryOfRecord, headBytes, specialBytes, sizeOf, fileOf, kindFits, lengthsFit, encodable, writeVerdict}
 
 -- what the examples compute with
 opened : Unit {0}
-unfolding all blocks be2 be4 bytes2 bytes4 headerOf lead4 lead3 leadOf stepOf scanOf isUtf8 appInfoVerdict entryVerdict entriesVerdict startOf statedVerdict titlesVerdict indexesVerdict verdictOf titleCount placeOf resolveOf objectAt entryOf resolveMovieObject nameOf nameGiven titlesOf tailBytes entryBytes entryOfRecord headBytes specialBytes sizeOf fileOf kindFits lengthsFit encodable writeVerdict
+unfolding all blocks be2 be4 bytes2 bytes4 headerOf lead4 lead3 leadOf stepOf scanOf isUtf8 appInfoVerdict appInfoOf entryVerdict entriesVerdict startOf statedVerdict titlesVerdict indexesVerdict verdictOf titleCount placeOf resolveOf objectAt indexOf parseOf entryOf resolveMovieObject nameOf nameGiven titlesOf tailBytes entryBytes entryOfRecord headBytes specialBytes sizeOf fileOf kindFits lengthsFit encodable writeVerdict
 opened = tt
 
 -- an entry of each type: a playback type, and an object or the name 00000
@@ -61,6 +62,13 @@ pub object-type-3 : verdictOf (set index 82 192) ≡ Refused BadEntry
 unfolding opened
 object-type-3 = refl
 
+-- AppInfo: bits 3 and 2 of its first byte, then two halves of the second; and how many titles there are.
+pub parsed-file : parseOf index
+    ≡ parsed.Read (record { version = 0x30323030; «app_info» = app; «first_playback_title» = Hdmv 0 0; «menu_title» = BdJ 1; titles = 1 })
+unfolding opened
+parsed-file = refl
+
+-- An HDMV entry: playback type and object.
 pub title-1 : entryOf index 1 ≡ entry.Object (Hdmv 2 3)
 unfolding opened
 title-1 = refl

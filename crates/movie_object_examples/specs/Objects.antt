@@ -52,6 +52,7 @@ pub past-the-stated-length : verdictOf (set one 43 0) ≡ Fine
 unfolding opened
 past-the-stated-length = refl
 
+-- The version is any four bytes; the object count stands at 76.
 pub version-and-count : parseOf one ≡ parsed.Read (record { version = 0x30323030; count = 1 })
 unfolding opened
 version-and-count = refl
@@ -62,6 +63,7 @@ pub flags-of-an-object : objectOf (set one 78 0xA0) 0
 unfolding opened
 flags-of-an-object = refl
 
+-- Not an entry: an object that isn't on the disc.
 pub no-such-object : objectOf one 1 ≡ object.Refused NotAnEntry
 unfolding opened
 no-such-object = refl
@@ -70,6 +72,11 @@ no-such-object = refl
 pub commands-of-an-object : partOf one 0 ≡ move
 unfolding opened
 commands-of-an-object = refl
+
+-- A file cut inside its last command is refused, and has no commands.
+pub commands-of-a-cut-file : partOf (take 93 one) 0 ≡ []
+unfolding opened
+commands-of-a-cut-file = refl
 
 -- Writing gives those bytes.
 pub written-file : fileOf 0x30323030 (0 ∷ 0 ∷ 0 ∷ []) (1 ∷ []) move ≡ one
