@@ -4,6 +4,7 @@ use mathlib.Core.List.{List}
 use Prim.Native.Nat.{ℕ}
 use lib.ListN.{getD, set}
 use Rattle.error.specs.declared.Refusal.the-variants.{BadBuffer}
+use Rattle.error.specs.declared.Verdict.the-variants as verdict
 use Rattle.registers.specs.declared.Read.the-variants.{Value, NoRegister, Refused}
 use Rattle.registers.specs.Rules.{freshGeneral, freshStatus, bankOf, readOf, putOf}
 
@@ -19,12 +20,22 @@ last-general = refl
 last-status : getD freshStatus 127 9 ≡ 0
 last-status = refl
 
+-- status register 5 holds 7
 abbrev bank : List ℕ
 bank = set freshStatus 5 7
 
 a-register : readOf 128 bank 5 ≡ Value 7
 unfolding opened
 a-register = refl
+
+-- General registers are 4,096.
+last-general-read : readOf 4096 (set freshGeneral 4095 7) 4095 ≡ Value 7
+unfolding opened
+last-general-read = refl
+
+last-general-written : getD (putOf 4096 freshGeneral 4095 9) 4095 0 ≡ 9
+unfolding opened
+last-general-written = refl
 
 -- A number from 128 on names no status register: nothing is read or written there.
 no-register : readOf 128 bank 128 ≡ NoRegister
@@ -40,6 +51,10 @@ other-length : readOf 4096 bank 5 ≡ Refused BadBuffer
 unfolding opened
 other-length = refl
 
+write-refused : bankOf 4096 bank ≡ verdict.Refused BadBuffer
+unfolding opened
+write-refused = refl
+
 kept : putOf 4096 bank 5 9 ≡ bank
 unfolding opened
 kept = refl
@@ -48,3 +63,8 @@ kept = refl
 written : putOf 128 bank 6 9 ≡ set (set freshStatus 5 7) 6 9
 unfolding opened
 written = refl
+
+-- No register is protected from the player: register 8, which no command may write.
+read-only-written : putOf 128 bank 8 9 ≡ set (set freshStatus 5 7) 8 9
+unfolding opened
+read-only-written = refl
