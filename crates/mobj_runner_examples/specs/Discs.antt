@@ -3,13 +3,14 @@ use mathlib.Core.List.{List, _++_}
 use Prim.Native.Nat.{ℕ}
 use lib.ListN.{replicate}
 use Rattle.common.specs.Rules.{bytes2, bytes4}
+use Rattle.registers.specs.Rules.{freshGeneral, freshStatus}
 
 -- fresh banks
 abbrev pub general : List ℕ
-general = replicate 4096 0
+general = freshGeneral
 
 abbrev pub status : List ℕ
-status = replicate 128 0
+status = freshStatus
 
 -- commands with an immediate operand
 abbrev pub jumpObject : ℕ → List ℕ
