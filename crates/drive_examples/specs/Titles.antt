@@ -84,3 +84,8 @@ return-to-the-caller = refl
 pub no-such-frame : drive 1 Here (rooms (session 1 1 2 0 1 true) (banks general status) [] []) ≡ rooms (Refused BadSession) (banks general status) [] []
 unfolding opened
 no-such-frame = refl
+
+-- A resume without pending answers finished.
+pub nothing-pending : drive 1 Here (rooms fresh (banks general status) [] []) ≡ leaves Finished fresh (banks general status) [] []
+unfolding opened
+nothing-pending = refl
