@@ -10,6 +10,7 @@ use Rattle.nav_command.specs.Rules as nav
 use Rattle.registers.specs.Rules.{writtenStatus, written, applied, setOf, bankOf, freshGeneral, freshStatus}
 use Rattle.vm.specs.declared.Answer.the-variants.{Done, Refused}
 use Rattle.vm.specs.declared.Step.the-variants.{Continue, Skipped, Halted}
+use Rattle.vm.specs.Rules as vm
 use Rattle.vm.specs.Rules.{Banks, banks, after, stepped, compareOf, execSet, acted, execOf, stepOf, runFrom, runOf, commandsOf, budgetOf, answered, stepAnswer, runAnswer}
 use Rattle.marked_examples.specs.Cases.{command, nop}
 
@@ -17,6 +18,10 @@ use Rattle.marked_examples.specs.Cases.{command, nop}
 opened : Unit {0}
 unfolding classOf writable branchOf operandOf commandOf nav.compareOf nav.setOf writtenStatus written applied setOf bankOf compareOf execSet acted execOf stepOf runFrom runOf commandsOf budgetOf answered stepAnswer runAnswer
 opened = tt
+
+-- A new machine stands at its first command, and its budget is the upper end of steps.
+new-machine : vm.fresh ≡ record { pc = 0; budget = 1_000_000 }
+new-machine = refl
 
 abbrev fresh : Banks
 fresh = banks freshGeneral freshStatus

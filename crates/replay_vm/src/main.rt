@@ -1,6 +1,5 @@
 // Replays cases that the Rust has answered, and prints how many there are and how many answers or registers differ.
 // Its standard input is made by compare/src/bin/answers_vm.rs, which says what a case holds.
-ghost use Prim.Native.Nat.{_<_};
 use libc::STDIN_FILENO;
 use registers::Registers;
 use replay_list::Replayed;
