@@ -33,7 +33,7 @@ nop-decoded : decodeCall (replicate 12 0) (replicate 13 9) ≡ handed 0 nop
 unfolding opened
 nop-decoded = refl
 
--- Twelve numbers are no room for a command's thirteen.
+-- 6 bad buffer: a command has thirteen numbers.
 twelve-numbers : decodeCall (replicate 12 0) (replicate 12 9) ≡ handed 6 (replicate 12 9)
 unfolding opened
 twelve-numbers = refl
@@ -53,7 +53,7 @@ p2-listed : listCommandCall p2 (replicate 15 9) 0 ≡ measured (bytes "Move r5, 
 unfolding opened
 p2-listed = refl
 
--- Eleven bytes are no command: the room and the length stay as they were.
+-- 6 bad buffer, a command of eleven bytes: the room and the length stay as they were.
 eleven-bytes : listCommandCall (replicate 11 0) (replicate 15 9) 7 ≡ measured (replicate 15 9) (size 6 7)
 unfolding opened
 eleven-bytes = refl

@@ -62,7 +62,7 @@ written : writeIndexCall 0x3032_3030 app given (replicate 121 9) 0 ≡ measured 
 unfolding opened
 written = refl
 
--- Three bytes have not the length of the AppInfo's four: the room and the length stay as they were.
+-- 6 bad buffer, an AppInfo of three bytes and not four: the room and the length stay as they were.
 three-bytes : writeIndexCall 0 (0 ∷ 0 ∷ 0 ∷ []) given (replicate 121 9) 7 ≡ measured (replicate 121 9) (size 6 7)
 unfolding opened
 three-bytes = refl

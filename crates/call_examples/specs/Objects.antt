@@ -28,7 +28,7 @@ head : objectsCall file (9 ∷ 9 ∷ []) ≡ handed 0 (0x3032_3030 ∷ 1 ∷ [])
 unfolding opened
 head = refl
 
--- Three numbers have not the length of the result.
+-- 6 bad buffer: the result has two numbers.
 three-numbers : objectsCall file (9 ∷ 9 ∷ 9 ∷ []) ≡ handed 6 (9 ∷ 9 ∷ 9 ∷ [])
 unfolding opened
 three-numbers = refl

@@ -28,6 +28,7 @@ fresh-session : freshSession (replicate 6 9) ≡ handed 0 (65536 ∷ 0 ∷ 0 ∷
 unfolding opened
 fresh-session = refl
 
+-- 6 bad buffer: a session has six numbers.
 five-numbers : freshSession (replicate 5 9) ≡ handed 6 (replicate 5 9)
 unfolding opened
 five-numbers = refl
@@ -37,6 +38,7 @@ largest-budgets : defaultBudgets (replicate 3 9) ≡ handed 0 (1000000 ∷ 10000
 unfolding opened
 largest-budgets = refl
 
+-- 6 bad buffer: there are three budgets.
 four-numbers : defaultBudgets (replicate 4 9) ≡ handed 6 (replicate 4 9)
 unfolding opened
 four-numbers = refl
@@ -46,7 +48,7 @@ register-5 : readCall 4096 (set freshGeneral 5 7) 5 (9 ∷ 9 ∷ []) ≡ handed 
 unfolding opened
 register-5 = refl
 
--- A bank of 128 numbers is none of general registers.
+-- 6 bad buffer: a bank of general registers has 4,096 numbers.
 no-general-bank : readCall 4096 freshStatus 5 (9 ∷ 9 ∷ []) ≡ handed 6 (9 ∷ 9 ∷ [])
 unfolding opened
 no-general-bank = refl
@@ -56,7 +58,7 @@ register-128 : readCall 128 freshStatus 128 (9 ∷ 9 ∷ []) ≡ handed 0 (0 ∷
 unfolding opened
 register-128 = refl
 
--- One number is no room for a status register's two.
+-- 6 bad buffer: the result of a status register has two numbers.
 one-number : readCall 128 freshStatus 5 (9 ∷ []) ≡ handed 6 (9 ∷ [])
 unfolding opened
 one-number = refl
@@ -66,6 +68,7 @@ set-register-5 : setCall 4096 freshGeneral 5 7 ≡ handed 0 (set freshGeneral 5 
 unfolding opened
 set-register-5 = refl
 
+-- 6 bad buffer: the bank stays as it was.
 set-in-one-register : setCall 4096 (9 ∷ []) 0 7 ≡ handed 6 (9 ∷ [])
 unfolding opened
 set-in-one-register = refl
