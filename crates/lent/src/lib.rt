@@ -1,14 +1,25 @@
 // Numbers into lent arrays, and refusals by number: what the calls for C share.
 use error::Refusal;
+use error::Verdict;
 ghost use mathlib.Core.Path.{_≡_};
 ghost use lib.ListN.{length};
 ghost use Rattle.error.specs.Rules.{numberOf};
-ghost use Rattle.lent.specs.Rules.{lengthsFit};
+ghost use Rattle.lent.specs.Rules.{lengthsFit, verdictNumber};
 
 pub fn refused(why: Refusal) -> u32
     ensures { λ r. ⌜ r ≡ numberOf why ⌝ }
 {
     why.number() as u32
+}
+
+// 0, or the refusal's number.
+pub fn verdict_number(found: Verdict) -> u32
+    ensures { λ r. ⌜ r ≡ verdictNumber found ⌝ }
+{
+    match found {
+        Verdict::Fine => 0,
+        Verdict::Refused(why) => refused(why),
+    }
 }
 
 // Numbers into an array that has room for just them.

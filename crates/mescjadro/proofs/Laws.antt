@@ -29,8 +29,10 @@ use Rattle.mobj_runner.specs.declared.Start.{Start as RunnerStart}
 use Rattle.mobj_runner.specs.Rules.{World, world, answerOf as runnerAnswer}
 use Rattle.nav_numbers.specs.Rules.{commandNumbers}
 use Rattle.numbers.specs.Rules.{sessionOf, budgetsOf}
-use Rattle.lent.specs.Rules.{Ended, ended, lengthsFit}
-use Rattle.mescjadro.specs.Rules.{handed, size, measured, decodeCall, text, textBy, listCommandCall, banked, freshBanks, ranBy, runnerBy, runnerCall}
+use Rattle.lent.specs.Rules.{Ended, ended, lengthsFit, handed, size, measured}
+use Rattle.command_calls.specs.Rules.{decodeCall, text, textBy, listCommandCall}
+use Rattle.player_calls.specs.Rules.{banked, freshBanks}
+use Rattle.drive_calls.specs.Rules.{ranBy, runnerBy, runnerCall}
 
 -- ---- clearing
 

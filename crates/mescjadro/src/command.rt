@@ -2,7 +2,8 @@
 use super::hand;
 use error::Refusal;
 ghost use mathlib.Core.Path.{_≡_};
-ghost use Rattle.mescjadro.specs.Rules.{handed, size, measured, decodeCall, encodeCall, listCommandCall};
+ghost use Rattle.lent.specs.Rules.{handed, size, measured};
+ghost use Rattle.command_calls.specs.Rules.{decodeCall, encodeCall, listCommandCall};
 
 // The thirteen numbers of twelve bytes.
 #[no_mangle]
@@ -31,7 +32,7 @@ pub extern "C" fn mescjadro_encode(command: &[u32], out: &mut [u8]) -> u32
     }
     if nav_numbers::is_command(command) {
         let found = nav_encode::encode(nav_numbers::command_named(command), out);
-        return numbers::verdict_number(found);
+        return lent::verdict_number(found);
     }
     lent::refused(Refusal::NotEncodable)
 }

@@ -7,8 +7,8 @@ ghost use lib.ListN.{length};
 ghost use Rattle.vm.specs.Rules.{banks};
 ghost use Rattle.mobj_runner.specs.Rules.{world};
 ghost use Rattle.mobj_runner.specs.declared.Start.the-variants as runner;
-ghost use Rattle.lent.specs.Rules.{ended};
-ghost use Rattle.mescjadro.specs.Rules.{handed, ranBy, runnerCall, checkedBy, checkCall};
+ghost use Rattle.lent.specs.Rules.{ended, handed};
+ghost use Rattle.drive_calls.specs.Rules.{ranBy, runnerCall, checkedBy, checkCall};
 
 // An outcome and the session that it leaves, or a refusal.
 fn hand_run(answer: RunAnswer, session: &mut [u32], outcome: &mut [u32]) -> u32

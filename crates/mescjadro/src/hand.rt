@@ -2,7 +2,8 @@
 use common::Written;
 use nav_list::Listed;
 ghost use mathlib.Core.Path.{_≡_};
-ghost use Rattle.mescjadro.specs.Rules.{size, textBy, fileBy};
+ghost use Rattle.lent.specs.Rules.{size, fileBy};
+ghost use Rattle.command_calls.specs.Rules.{textBy};
 
 // What a listing answers, and its length.
 pub fn hand_text(listed: Listed, count: &mut usize) -> u32

@@ -12,7 +12,8 @@ use index_bdmv::Resolved;
 ghost use mathlib.Core.Path.{_≡_};
 ghost use lib.ListN.{length};
 ghost use Rattle.index_bdmv_write.specs.Rules.{entries};
-ghost use Rattle.mescjadro.specs.Rules.{handed, size, measured, indexNumbers, indexCall, entryNumbers, typeNumbers, entryCall, leadNumbers, resolveCall, appOf, writeIndexCall};
+ghost use Rattle.lent.specs.Rules.{handed, size, measured};
+ghost use Rattle.index_calls.specs.Rules.{indexNumbers, indexCall, entryNumbers, typeNumbers, entryCall, leadNumbers, resolveCall, appOf, writeIndexCall};
 
 fn index_numbers(version: u32, app: AppInfoBdmv, titles: u16) -> [u32; 6]
     ensures { λ r. ⌜ r ≡ indexNumbers version app titles ⌝ }

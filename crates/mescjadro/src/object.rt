@@ -8,7 +8,8 @@ use movie_object::Parsed;
 ghost use mathlib.Core.Path.{_≡_};
 ghost use Prim.Native.Nat.{_≤_};
 ghost use lib.ListN.{length};
-ghost use Rattle.mescjadro.specs.Rules.{handed, size, measured, objectsCall, objectNumbers, objectCall, listObjectCall, listCall, writeObjectsCall};
+ghost use Rattle.lent.specs.Rules.{handed, size, measured};
+ghost use Rattle.object_calls.specs.Rules.{objectsCall, objectNumbers, objectCall, listObjectCall, listCall, writeObjectsCall};
 
 // What a file holds.
 #[no_mangle]

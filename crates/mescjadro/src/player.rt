@@ -9,7 +9,8 @@ use vm::HdmvVm;
 ghost use mathlib.Core.Path.{_≡_};
 ghost use lib.ListN.{length, replicate};
 ghost use Rattle.vm.specs.Rules.{banks};
-ghost use Rattle.mescjadro.specs.Rules.{handed, banked, freshBanks, freshSession, defaultBudgets, readBy, readCall, setCall, told, toldBy, machine, stepCall, runCall};
+ghost use Rattle.lent.specs.Rules.{handed};
+ghost use Rattle.player_calls.specs.Rules.{banked, freshBanks, freshSession, defaultBudgets, readBy, readCall, setCall, told, toldBy, machine, stepCall, runCall};
 
 fn clear(bank: &mut [u32])
     ensures { λ _. ⌜ now (bank .exit) ≡ replicate (length (now (bank .entry))) 0 ⌝ }
@@ -106,14 +107,14 @@ pub extern "C" fn mescjadro_psr(psr: &[u32], number: u16, result: &mut [u32]) ->
 pub extern "C" fn mescjadro_set_gpr(gpr: &mut [u32], number: u16, value: u32) -> u32
     ensures { λ r. ⌜ handed r (now (gpr .exit)) ≡ setCall 4096 (now (gpr .entry)) number value ⌝ }
 {
-    numbers::verdict_number(Registers::set_gpr(gpr, number, value))
+    lent::verdict_number(Registers::set_gpr(gpr, number, value))
 }
 
 #[no_mangle]
 pub extern "C" fn mescjadro_set_psr_player(psr: &mut [u32], number: u16, value: u32) -> u32
     ensures { λ r. ⌜ handed r (now (psr .exit)) ≡ setCall 128 (now (psr .entry)) number value ⌝ }
 {
-    numbers::verdict_number(Registers::set_psr_player(psr, number, value))
+    lent::verdict_number(Registers::set_psr_player(psr, number, value))
 }
 
 fn hand_step(found: Answer, pc: &mut usize, answer: &mut [u32]) -> u32

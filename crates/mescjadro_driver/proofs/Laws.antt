@@ -11,7 +11,7 @@ use Rattle.nav_driver.specs.declared.Start.{Start as DriverStart}
 use Rattle.nav_driver.specs.Rules.{Rooms, rooms, answerOf as driverAnswer}
 use Rattle.numbers.specs.Rules.{sessionOf, budgetsOf}
 use Rattle.lent.specs.Rules.{Ended, ended, lengthsFit}
-use Rattle.mescjadro_driver.specs.Rules.{droveBy, driverBy, driverCall}
+use Rattle.drive_calls.specs.Rules.{droveBy, driverBy, driverCall}
 
 module _ (b s o s′ o′ : List ℕ) (r : ℕ) (n : Session) (m : Budgets) (fit : lengthsFit b s o ≡ true) (isSession : n ≡ sessionOf s) (isBudgets : m ≡ budgetsOf b) where
   pub drove : (x file : List ℕ) (start : DriverStart) (a : DriveAnswer) (g g′ : Banks) (f f′ t t′ : List ℕ) → rooms a g′ f′ t′ ≡ driverAnswer x file m start (rooms n g f t) → ended r s′ o′ ≡ droveBy a s o → rooms (ended r s′ o′) g′ f′ t′ ≡ driverCall x file start b g f t s o

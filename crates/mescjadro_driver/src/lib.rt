@@ -7,7 +7,7 @@ ghost use Rattle.vm.specs.Rules.{banks};
 ghost use Rattle.nav_driver.specs.Rules.{rooms};
 ghost use Rattle.nav_driver.specs.declared.Start.the-variants as driver;
 ghost use Rattle.lent.specs.Rules.{ended};
-ghost use Rattle.mescjadro_driver.specs.Rules.{droveBy, driverCall};
+ghost use Rattle.drive_calls.specs.Rules.{droveBy, driverCall};
 
 // An outcome and the session that it leaves, or a refusal.
 fn hand_drive(answer: DriveAnswer, session: &mut [u32], outcome: &mut [u32]) -> u32

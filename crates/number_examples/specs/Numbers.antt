@@ -2,8 +2,6 @@
 use mathlib.Core.Path.{_≡_, refl}
 use mathlib.Core.Bool.{true, false}
 use mathlib.Core.List.{[], _∷_}
-use Rattle.error.specs.declared.Refusal.the-variants.{BadBudget}
-use Rattle.error.specs.declared.Verdict.the-variants.{Fine, Refused}
 use Rattle.nav_command.specs.declared.SystemOp.the-variants.{PopUpOff}
 use Rattle.nav_command.specs.declared.Operation.the-variants.{System, Unknown}
 use Rattle.vm.specs.declared.NavRequest.the-variants.{JumpTitle, PlayPlayListAtMark, LinkPlayItem, SetSystem}
@@ -13,14 +11,7 @@ use Rattle.mobj_runner.specs.declared.RunOutcome.the-variants as R
 use Rattle.nav_driver.specs.declared.Option32.the-variants.{None, Some}
 use Rattle.nav_driver.specs.declared.DriveOutcome.the-variants as D
 use Rattle.disc_check.specs.declared.DiscCheck.the-variants.{Passed, Offends}
-use Rattle.numbers.specs.Rules.{verdictNumber, request, requestOf, stepNumbers, driveNumbers, runNumbers, checkNumbers, sessionNumbers, sessionOf, budgetNumbers, budgetsOf}
-
--- 0, or a refusal: 7 bad budget.
-fine : verdictNumber Fine ≡ 0
-fine = refl
-
-bad-budget : verdictNumber (Refused BadBudget) ≡ 7
-bad-budget = refl
+use Rattle.numbers.specs.Rules.{request, requestOf, stepNumbers, driveNumbers, runNumbers, checkNumbers, sessionNumbers, sessionOf, budgetNumbers, budgetsOf}
 
 -- A request: 11 PlayPLatMark, with the values of operand 1, a playlist, and of operand 2, a mark.
 play-at-mark : requestOf (PlayPlayListAtMark 3 9) ≡ request 11 3 9 0

@@ -6,8 +6,6 @@ use Prim.Native.Nat.{ℕ}
 use lib.Dec.{eqb}
 use lib.ListN.{getD}
 use Rattle.error.specs.Rules.{numberOf as refusalNumber}
-use Rattle.error.specs.declared.Verdict.{Verdict}
-use Rattle.error.specs.declared.Verdict.the-variants as verdict
 use Rattle.nav_command.specs.declared.BranchOp.{BranchOp}
 use Rattle.nav_command.specs.declared.BranchOp.the-variants as B
 use Rattle.nav_command.specs.declared.Operation.the-variants.{Branch}
@@ -30,11 +28,6 @@ use Rattle.session.specs.declared.Session.{Session}
 use Rattle.session.specs.declared.Budgets.{Budgets}
 use Rattle.session.specs.Rules.{session}
 use Rattle.numbers.specs.declared.Request.{Request}
-
--- A test's answer: 0, or the refusal's number.
-abbrev pub verdictNumber : Verdict → ℕ
-verdictNumber verdict.Fine = 0
-verdictNumber (verdict.Refused r) = refusalNumber r
 
 -- ---- requests
 

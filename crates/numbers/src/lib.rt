@@ -3,11 +3,10 @@ ghost use mathlib.Core.Path.{_≡_};
 ghost use lib.ListN.{length};
 ghost use Rattle.nav_command.specs.Rules.{numberOf};
 ghost use Rattle.nav_numbers.specs.Rules.{unknownOf};
-ghost use Rattle.numbers.specs.Rules.{verdictNumber, request, requestOf, stepNumbers, bad, requesting, optionOf, playing, driveNumbers, runNumbers, checkNumbers, sessionNumbers, sessionOf, budgetNumbers, budgetsOf};
+ghost use Rattle.numbers.specs.Rules.{request, requestOf, stepNumbers, bad, requesting, optionOf, playing, driveNumbers, runNumbers, checkNumbers, sessionNumbers, sessionOf, budgetNumbers, budgetsOf};
 ghost use Rattle.numbers.specs.Apart.{ToldApart};
 use common::number_at;
 use disc_check::DiscCheck;
-use error::Verdict;
 use mobj_runner::RunOutcome;
 use nav_command::Operation;
 use nav_driver::DriveOutcome;
@@ -29,18 +28,6 @@ pub struct Request {
     pub first: u32,
     pub second: u32,
     pub code: u32,
-}
-
-// Refusals.
-
-// 0, or the refusal's number.
-pub fn verdict_number(found: Verdict) -> u32
-    ensures { λ r. ⌜ r ≡ verdictNumber found ⌝ }
-{
-    match found {
-        Verdict::Fine => 0,
-        Verdict::Refused(why) => lent::refused(why),
-    }
 }
 
 // Requests.

@@ -2,7 +2,7 @@
 use mathlib.Core.Path.{refl}
 use borrow.Author.Needs.{needs}
 use borrow.Author.Tests.{eq-eqb, ne-eqb}
-use Rattle.mescjadro.specs.Rules.{decodeCall}
+use Rattle.command_calls.specs.Rules.{decodeCall}
 use Rattle.mescjadro.proofs.Laws.{decoded}
 use Rattle.mescjadro.proofs.command.mescjadro_decode.Statement.{statement}
 use Rattle.mescjadro.proofs.command.mescjadro_decode.Tie as tie

@@ -1,7 +1,7 @@
 -- A test of the length, one of the numbers, then the encoder. Assumes nothing.
 use borrow.Author.Needs.{needs}
 use borrow.Author.Tests.{eq-eqb, ne-eqb}
-use Rattle.mescjadro.specs.Rules.{encodeCall}
+use Rattle.command_calls.specs.Rules.{encodeCall}
 use Rattle.mescjadro.proofs.command.mescjadro_encode.Statement.{statement}
 use Rattle.mescjadro.proofs.command.mescjadro_encode.Tie as tie
 

@@ -1,7 +1,7 @@
 -- A test of the length, then `listed`. Assumes nothing.
 use borrow.Author.Needs.{needs}
 use borrow.Author.Tests.{ne-eqb}
-use Rattle.mescjadro.specs.Rules.{listCommandCall}
+use Rattle.command_calls.specs.Rules.{listCommandCall}
 use Rattle.mescjadro.proofs.Laws.{listed}
 use Rattle.mescjadro.proofs.command.mescjadro_list_command.Statement.{statement}
 use Rattle.mescjadro.proofs.command.mescjadro_list_command.Tie as tie

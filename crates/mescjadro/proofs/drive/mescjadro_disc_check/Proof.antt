@@ -1,7 +1,7 @@
 -- A test of the length, then the check. Assumes nothing.
 use borrow.Author.Needs.{needs}
 use borrow.Author.Tests.{eq-eqb, ne-eqb}
-use Rattle.mescjadro.specs.Rules.{checkCall}
+use Rattle.drive_calls.specs.Rules.{checkCall}
 use Rattle.mescjadro.proofs.drive.mescjadro_disc_check.Statement.{statement}
 use Rattle.mescjadro.proofs.drive.mescjadro_disc_check.Tie as tie
 

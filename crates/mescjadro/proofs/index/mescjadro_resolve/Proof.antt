@@ -2,7 +2,8 @@
 use mathlib.Core.Path.{ap, _∙_}
 use borrow.Author.Needs.{needs}
 use borrow.Author.Tests.{eq-eqb, ne-eqb}
-use Rattle.mescjadro.specs.Rules.{handed, resolveCall}
+use Rattle.lent.specs.Rules.{handed}
+use Rattle.index_calls.specs.Rules.{resolveCall}
 use Rattle.mescjadro.proofs.index.mescjadro_resolve.Statement.{statement}
 use Rattle.mescjadro.proofs.index.mescjadro_resolve.Tie as tie
 

@@ -2,7 +2,8 @@
 use mathlib.Core.Path.{ap}
 use borrow.Author.Needs.{needs}
 use borrow.Author.Tests.{eq-eqb, ne-eqb}
-use Rattle.mescjadro.specs.Rules.{measured, writeIndexCall}
+use Rattle.lent.specs.Rules.{measured}
+use Rattle.index_calls.specs.Rules.{writeIndexCall}
 use Rattle.mescjadro.proofs.index.mescjadro_write_index.Statement.{statement}
 use Rattle.mescjadro.proofs.index.mescjadro_write_index.Tie as tie
 

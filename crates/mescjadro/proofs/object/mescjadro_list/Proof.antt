@@ -1,7 +1,8 @@
 -- The listing, and its length. Assumes nothing.
 use mathlib.Core.Path.{ap}
 use borrow.Author.Needs.{needs}
-use Rattle.mescjadro.specs.Rules.{measured, listCall}
+use Rattle.lent.specs.Rules.{measured}
+use Rattle.object_calls.specs.Rules.{listCall}
 use Rattle.mescjadro.proofs.object.mescjadro_list.Statement.{statement}
 use Rattle.mescjadro.proofs.object.mescjadro_list.Tie as tie
 

@@ -2,7 +2,8 @@
 use mathlib.Core.Path.{sym, ap, _∙_}
 use borrow.Author.Needs.{needs}
 use borrow.Author.Tests.{eq-eqb, ne-eqb}
-use Rattle.mescjadro.specs.Rules.{handed, objectNumbers, objectCall}
+use Rattle.lent.specs.Rules.{handed}
+use Rattle.object_calls.specs.Rules.{objectNumbers, objectCall}
 use Rattle.mescjadro.proofs.Laws.{found-tells, place-small}
 use Rattle.mescjadro.proofs.object.mescjadro_object.Statement.{statement}
 use Rattle.mescjadro.proofs.object.mescjadro_object.Tie as tie

@@ -2,7 +2,8 @@
 use mathlib.Core.Path.{ap}
 use borrow.Author.Needs.{needs}
 use borrow.Author.Tests.{eq-eqb, ne-eqb}
-use Rattle.mescjadro.specs.Rules.{handed, objectsCall}
+use Rattle.lent.specs.Rules.{handed}
+use Rattle.object_calls.specs.Rules.{objectsCall}
 use Rattle.mescjadro.proofs.object.mescjadro_objects.Statement.{statement}
 use Rattle.mescjadro.proofs.object.mescjadro_objects.Tie as tie
 

@@ -1,7 +1,8 @@
 -- The writer, and the length of the file. Assumes nothing.
 use mathlib.Core.Path.{ap}
 use borrow.Author.Needs.{needs}
-use Rattle.mescjadro.specs.Rules.{measured, writeObjectsCall}
+use Rattle.lent.specs.Rules.{measured}
+use Rattle.object_calls.specs.Rules.{writeObjectsCall}
 use Rattle.mescjadro.proofs.object.mescjadro_write_objects.Statement.{statement}
 use Rattle.mescjadro.proofs.object.mescjadro_write_objects.Tie as tie
 

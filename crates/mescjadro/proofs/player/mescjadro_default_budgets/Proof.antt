@@ -2,7 +2,8 @@
 use mathlib.Core.Path.{ap, _∙_}
 use borrow.Author.Needs.{needs}
 use borrow.Author.Tests.{eq-eqb, ne-eqb}
-use Rattle.mescjadro.specs.Rules.{handed, defaultBudgets}
+use Rattle.lent.specs.Rules.{handed}
+use Rattle.player_calls.specs.Rules.{defaultBudgets}
 use Rattle.numbers.specs.Rules.{budgetNumbers}
 use Rattle.mescjadro.proofs.player.mescjadro_default_budgets.Statement.{statement}
 use Rattle.mescjadro.proofs.player.mescjadro_default_budgets.Tie as tie

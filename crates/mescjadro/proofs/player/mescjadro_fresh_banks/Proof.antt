@@ -1,7 +1,7 @@
 -- Two tests of lengths, then zeros (`fresh-made`). Assumes nothing.
 use borrow.Author.Needs.{needs}
 use borrow.Author.Tests.{eq-eqb, ne-eqb}
-use Rattle.mescjadro.specs.Rules.{freshBanks}
+use Rattle.player_calls.specs.Rules.{freshBanks}
 use Rattle.mescjadro.proofs.Laws.{fresh-made}
 use Rattle.mescjadro.proofs.player.mescjadro_fresh_banks.Statement.{statement}
 use Rattle.mescjadro.proofs.player.mescjadro_fresh_banks.Tie as tie

@@ -2,7 +2,8 @@
 use mathlib.Core.Path.{ap, _∙_}
 use borrow.Author.Needs.{needs}
 use borrow.Author.Tests.{eq-eqb, ne-eqb}
-use Rattle.mescjadro.specs.Rules.{handed, freshSession}
+use Rattle.lent.specs.Rules.{handed}
+use Rattle.player_calls.specs.Rules.{freshSession}
 use Rattle.numbers.specs.Rules.{sessionNumbers}
 use Rattle.mescjadro.proofs.player.mescjadro_fresh_session.Statement.{statement}
 use Rattle.mescjadro.proofs.player.mescjadro_fresh_session.Tie as tie

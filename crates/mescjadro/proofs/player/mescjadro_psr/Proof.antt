@@ -1,7 +1,7 @@
 -- A test of the length, then the read. Assumes nothing.
 use borrow.Author.Needs.{needs}
 use borrow.Author.Tests.{eq-eqb, ne-eqb}
-use Rattle.mescjadro.specs.Rules.{readCall}
+use Rattle.player_calls.specs.Rules.{readCall}
 use Rattle.mescjadro.proofs.player.mescjadro_psr.Statement.{statement}
 use Rattle.mescjadro.proofs.player.mescjadro_psr.Tie as tie
 

@@ -2,7 +2,7 @@
 use mathlib.Core.Path.{ap}
 use borrow.Author.Needs.{needs}
 use borrow.Author.Tests.{eq-eqb, ne-eqb}
-use Rattle.mescjadro.specs.Rules.{machine, stepCall}
+use Rattle.player_calls.specs.Rules.{machine, stepCall}
 use Rattle.mescjadro.proofs.player.mescjadro_vm_step.Statement.{statement}
 use Rattle.mescjadro.proofs.player.mescjadro_vm_step.Tie as tie
 
