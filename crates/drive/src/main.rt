@@ -1,6 +1,8 @@
 // Drives a disc: runs it from an entry, answers every play and request with a resume, and says how each call ended.
 use console::say;
 use console::say_number;
+use error::Refusal;
+use error::Verdict;
 use nav_driver::DriveAnswer;
 use nav_driver::DriveEnd;
 use nav_driver::DriveOutcome;
@@ -23,7 +25,7 @@ struct Options {
 
 // How a call ended.
 enum Ended {
-    Refused,
+    Refused(Refusal),
     With(DriveEnd),
 }
 
@@ -249,7 +251,7 @@ fn drive(
     let ended = print_answer(answer);
     let resumes = options.resumes;
     match ended {
-        Ended::Refused => say(b"ended: refused\n"),
+        Ended::Refused(why) => print_refused(why, index),
         Ended::With(end) => {
             let last = resume_all(index, file, gpr, psr, frames, titles, end, b, resumes);
             say(b"ended: ");
@@ -282,7 +284,7 @@ fn resume_all(
             let answer = nav_driver::resume(gpr, psr, frames, titles, index, file, s, b);
             let ended = print_answer(answer);
             match ended {
-                Ended::Refused => {
+                Ended::Refused(_) => {
                     return last;
                 }
                 Ended::With(next) => {
@@ -317,7 +319,7 @@ fn print_answer(answer: DriveAnswer) -> Ended {
     match answer {
         DriveAnswer::Refused(why) => {
             console::say_refused(why);
-            Ended::Refused
+            Ended::Refused(why)
         }
         DriveAnswer::Drove(end) => {
             let outcome = end.outcome;
@@ -334,6 +336,19 @@ fn print_answer(answer: DriveAnswer) -> Ended {
 }
 
 // How the drive ended: its last outcome, and whether it waits for an answer still.
+// Refusals 1 to 4 are those of a file, and the index file is judged first.
+fn print_refused(why: Refusal, index: &[u8]) {
+    say(b"ended: refused");
+    if why.number() <= 4 {
+        let found = index_bdmv::verdict(index);
+        match found {
+            Verdict::Refused(_) => say(b", the index file"),
+            Verdict::Fine => say(b", the object file"),
+        }
+    }
+    say(b"\n");
+}
+
 fn print_last(last: DriveEnd) {
     let outcome = last.outcome;
     print_outcome(outcome);

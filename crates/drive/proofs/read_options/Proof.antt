@@ -12,39 +12,30 @@ Inv-loop gpr₀ psr₀ options₀ count k₀ gpr psr options k =
 abbrev μ-loop : tie.MeasureT-loop
 μ-loop gpr₀ psr₀ options₀ count k₀ gpr psr options k = count - k
 
--- src/main.rt:219:9
 arg-count-requires : tie.Need-arg-count-requires Inv-loop μ-loop
 arg-count-requires c κs = search needs
 
--- src/main.rt:221:5
 loop-holds : tie.Need-loop-holds Inv-loop μ-loop
 loop-holds c = search needs
 
--- src/main.rt:222:9
 read-option-requires : tie.Need-read-option-requires Inv-loop μ-loop
 read-option-requires c κs = search needs
 
--- src/main.rt:223:9
 add-k : tie.Need-add-k Inv-loop μ-loop
 add-k c = search needs
 
--- src/main.rt:221:5
 loop-less : tie.Need-loop-less Inv-loop μ-loop
 loop-less c = search needs
 
--- src/main.rt:221:5
 loop-again : tie.Need-loop-again Inv-loop μ-loop
 loop-again c = search needs
 
--- src/main.rt:210:1
 same-length : tie.Need-same-length Inv-loop μ-loop
 same-length c = search needs
 
--- src/main.rt:210:1
 same-length-2 : tie.Need-same-length-2 Inv-loop μ-loop
 same-length-2 c = search needs
 
--- src/main.rt:210:1
 returns : tie.Need-returns Inv-loop μ-loop
 returns c = search needs
 
