@@ -10,6 +10,7 @@ use Rattle.error.specs.declared.Verdict.the-variants.{Fine, Refused}
 use Rattle.nav_command.specs.declared.BranchOp.the-variants as B
 use Rattle.nav_command.specs.declared.CompareOp.the-variants as C
 use Rattle.nav_command.specs.declared.SetOp.the-variants as S
+use Rattle.nav_command.specs.declared.SystemOp.the-variants as Y
 use Rattle.nav_command.specs.declared.Operation.the-variants as O
 use Rattle.nav_command.specs.declared.CommandGroup.the-variants as G
 use Rattle.nav_command.specs.declared.RegisterBank.the-variants.{Gpr, PsrSecondary}
@@ -52,6 +53,11 @@ jump-title = refl
 compare-code : commandOf (command 0x4840_0200 1 7) .operation ≡ O.Compare C.Eq
 unfolding compareOf commandOf
 compare-code = refl
+
+-- Codes of the group Set in sub-group 1: 7 is PopUpOff, and 11 the last that is known.
+system-codes : setOf 1 7 ∷ setOf 1 12 ∷ [] ≡ O.System Y.PopUpOff ∷ O.Unknown 1 12 ∷ []
+unfolding setOf
+system-codes = refl
 
 -- A register's index is the low 12 bits.
 index-4087 : commandOf (command 0x5000_0001 5 0xC000_0FF7) .operand2 ≡ Register PsrSecondary 4087
