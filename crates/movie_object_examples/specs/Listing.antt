@@ -1,9 +1,11 @@
 -- Examples of objects as text (document 01, "Marked and run examples"). Assumes nothing.
 use mathlib.Core.Path.{_≡_, refl}
+use mathlib.Core.Bool.{true}
 use mathlib.Core.List.{List, [], _∷_, _++_}
-use Prim.Native.Nat.{ℕ}
+use Prim.Native.Nat.{ℕ, _+_, _*_}
 use Prim.Native.String.{String}
-use lib.ListN.{replicate}
+use lib.Dec.{leb}
+use lib.ListN.{length, replicate}
 use Rattle.laws.specs.Firsts.{blocks}
 use Rattle.laws.specs.Over.{over}
 use Rattle.common.specs.Rules.{be2, be4, bytes2, bytes4, headerOf}
@@ -57,3 +59,12 @@ no-such-object = refl
 pub no-room : listFile two (replicate 121 7) 0 ≡ listing (Refused NoRoom) (replicate 121 7)
 unfolding opened
 no-room = refl
+
+-- forty objects without commands, in 238 bytes
+abbrev forty : List ℕ
+forty = bytes "MOBJ0200" ++ replicate 68 0 ++ bytes2 40 ++ replicate 160 0
+
+-- A text has at most 57 bytes for each object and 10 for each byte of the file: here forty lines of 61 or 62 bytes.
+pub longest-listing : leb (length (fileText forty)) (57 * 40 + 10 * 238) ≡ true
+unfolding opened
+longest-listing = refl

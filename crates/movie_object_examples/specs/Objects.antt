@@ -1,8 +1,9 @@
 -- Examples of a MovieObject.bdmv, read and written (document 01, module 5). Assumes nothing.
 use mathlib.Core.Path.{_≡_, refl}
 use mathlib.Core.List.{List, [], _∷_, _++_}
-use Prim.Native.Nat.{ℕ}
-use lib.ListN.{set, take, replicate}
+use Prim.Native.Nat.{ℕ, zero, suc, _<_}
+use native.Mathlib.Omega.{arith}
+use lib.ListN.{getD, set, take, replicate}
 use Rattle.laws.specs.Firsts.{sum, all, allBelow, blocks}
 use Rattle.laws.specs.Over.{over}
 use Rattle.common.specs.Rules.{be2, be4, bytes2, bytes4, headerOf, left}
@@ -11,8 +12,9 @@ use Rattle.error.specs.declared.Verdict.the-variants.{Fine, Refused}
 use Rattle.movie_object.specs.declared.Object.the-variants as object
 use Rattle.movie_object.specs.declared.Parsed.the-variants as parsed
 use Rattle.movie_object.specs.Rules.{countOf, next, place, bodyOf, verdictOf, commandCount, commandsOf, parseOf, headAt, objectOf, partOf}
+use Rattle.movie_object.specs.Pieces.{Walked}
 use Rattle.common.specs.declared.Written.the-variants as written
-use Rattle.movie_object_write.specs.Rules.{cmdsAt, objectBytes, object as objectWritten, headBytes, sizeOf, fileOf, encodable, writeVerdict, writeOf}
+use Rattle.movie_object_write.specs.Rules.{cmdsAt, objectBytes, object as objectWritten, headBytes, sizeOf, fileOf, encodable, writeVerdict, writeOf, objectRead}
 
 -- what the examples compute with
 opened : Unit {0}
@@ -57,6 +59,15 @@ pub version-and-count : parseOf one ≡ parsed.Read (record { version = 0x303230
 unfolding opened
 version-and-count = refl
 
+-- It is two bytes, and zero past the end of a file.
+pub count-258 : countOf (set (set one 76 1) 77 2) ≡ 258
+unfolding opened
+count-258 = refl
+
+pub count-of-a-cut-file : countOf (take 77 (set one 76 1)) ≡ 256
+unfolding opened
+count-of-a-cut-file = refl
+
 -- The flags are the top three bits of an object's first byte.
 pub flags-of-an-object : objectOf (set one 78 0xA0) 0
     ≡ object.Found (record { «resume_intention_flag» = 1; «menu_call_mask» = 0; «title_search_mask» = 1; commands = 1 })
@@ -72,6 +83,24 @@ no-such-object = refl
 pub commands-of-an-object : partOf one 0 ≡ move
 unfolding opened
 commands-of-an-object = refl
+
+-- a file of two objects, of which the first has that command, and where they stand
+abbrev pair : List ℕ
+pair = bytes4 0x4D4F424A ++ replicate 72 0 ++ bytes2 2 ++ bytes4 1 ++ move ++ bytes4 0
+
+abbrev places : List ℕ
+places = 78 ∷ 94 ∷ []
+
+-- A walk of the heads accepts the file and finds each object.
+placed : (k : ℕ) → k < countOf pair → getD places k 0 ≡ place pair k
+unfolding opened
+placed zero h = refl
+placed (suc zero) h = refl
+placed (suc (suc k)) h = absurd (omega arith)
+
+pub heads-walked : Walked pair places Fine
+unfolding opened
+heads-walked = record { judged = refl; placed = λ e room. record { room = room; at = placed } }
 
 -- A file cut inside its last command is refused, and has no commands.
 pub commands-of-a-cut-file : partOf (take 93 one) 0 ≡ []
@@ -97,3 +126,28 @@ rest-stays = refl
 pub no-room : writeOf 0x30323030 (0 ∷ 0 ∷ 0 ∷ []) (1 ∷ []) move (replicate 93 7) ≡ left (replicate 93 7) (written.Refused NoRoom)
 unfolding opened
 no-room = refl
+
+-- that file with the first and the last flag, and what the writer makes of its record
+abbrev flagged : List ℕ
+flagged = set one 78 0xA0
+
+abbrev made : List ℕ
+made = fileOf 0x30323030 (1 ∷ 0 ∷ 1 ∷ []) (1 ∷ []) move
+
+-- Writing then reading gives the record back.
+pub flags-read-back : objectOf made 0 ≡ object.Found (objectRead (1 ∷ 0 ∷ 1 ∷ []) (1 ∷ []) 0)
+unfolding opened
+flags-read-back = refl
+
+pub commands-read-back : partOf made 0 ≡ move
+unfolding opened
+commands-read-back = refl
+
+-- Reading then writing gives the bytes back, for a file that the writer could have made.
+pub accepted-back : writeVerdict (1 ∷ 0 ∷ 1 ∷ []) (1 ∷ []) (partOf flagged 0) 94 ≡ Fine
+unfolding opened
+accepted-back = refl
+
+pub bytes-back : fileOf 0x30323030 (1 ∷ 0 ∷ 1 ∷ []) (1 ∷ []) (partOf flagged 0) ≡ flagged
+unfolding opened
+bytes-back = refl
