@@ -15,11 +15,11 @@ use Rattle.index_bdmv.specs.declared.IndexEntry.the-variants as entry
 use Rattle.index_bdmv.specs.declared.Lead.the-variants as lead
 use Rattle.index_bdmv.specs.declared.Resolved.the-variants as resolved
 use Rattle.index_bdmv.specs.Rules.{appInfoVerdict, appInfoOf, entryVerdict, entriesVerdict, startOf, statedVerdict, titlesVerdict, indexesVerdict, verdictOf, titleCount, placeOf, resolveOf, objectAt, indexOf, parseOf, entryOf, resolveMovieObject, nameOf}
-use Rattle.index_bdmv_write.specs.Rules.{Entries, entries, nameGiven, titlesOf, tailBytes, entryBytes, entryOfRecord, headBytes, specialBytes, sizeOf, fileOf, kindFits, lengthsFit, encodable, writeVerdict}
+use Rattle.index_bdmv_write.specs.Rules.{Entries, entries, nameGiven, titlesOf, tailBytes, entryBytes, entryOfRecord, headBytes, specialBytes, sizeOf, fileOf, kindFits, lengthsFit, encodable, writeVerdict, entryRead}
 
 -- what the examples compute with
 opened : Unit {0}
-unfolding all blocks be2 be4 bytes2 bytes4 headerOf lead4 lead3 leadOf stepOf scanOf isUtf8 appInfoVerdict appInfoOf entryVerdict entriesVerdict startOf statedVerdict titlesVerdict indexesVerdict verdictOf titleCount placeOf resolveOf objectAt indexOf parseOf entryOf resolveMovieObject nameOf nameGiven titlesOf tailBytes entryBytes entryOfRecord headBytes specialBytes sizeOf fileOf kindFits lengthsFit encodable writeVerdict
+unfolding all blocks be2 be4 bytes2 bytes4 headerOf lead4 lead3 leadOf stepOf scanOf isUtf8 appInfoVerdict appInfoOf entryVerdict entriesVerdict startOf statedVerdict titlesVerdict indexesVerdict verdictOf titleCount placeOf resolveOf objectAt indexOf parseOf entryOf resolveMovieObject nameOf nameGiven titlesOf tailBytes entryBytes entryOfRecord headBytes specialBytes sizeOf fileOf kindFits lengthsFit encodable writeVerdict entryRead
 opened = tt
 
 -- an entry of each type: a playback type, and an object or the name 00000
@@ -102,3 +102,28 @@ playback-of-title-1 = refl
 pub bad-name : writeVerdict app (entries (1 ∷ 2 ∷ []) (0 ∷ 0 ∷ []) (0 ∷ 0 ∷ []) (replicate 10 0xFF)) 108 ≡ Refused NotEncodable
 unfolding opened
 bad-name = refl
+
+-- what the writer makes of that record, and the record as it is read: a name that its type doesn't use is lost
+abbrev made : List ℕ
+made = fileOf 0x30323030 app given
+
+abbrev reread : Entries
+reread = entries (1 ∷ 2 ∷ 1 ∷ []) (0 ∷ 1 ∷ 2 ∷ []) (0 ∷ 0 ∷ 3 ∷ []) (replicate 5 0 ++ nameOf index 65537 ++ replicate 5 0)
+
+-- Writing then reading gives the record back.
+pub title-read-back : entryOf made 1 ≡ entry.Object (entryRead given 2)
+unfolding opened
+title-read-back = refl
+
+pub name-read-back : nameOf made 65537 ≡ nameGiven (given .names) 1
+unfolding opened
+name-read-back = refl
+
+-- Reading then writing gives the bytes back, for a file that the writer could have made.
+pub accepted-back : writeVerdict app reread 120 ≡ Fine
+unfolding opened
+accepted-back = refl
+
+pub bytes-back : fileOf 0x30323030 app reread ≡ index
+unfolding opened
+bytes-back = refl
