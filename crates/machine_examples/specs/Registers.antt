@@ -1,12 +1,15 @@
 -- Fresh banks, and the player's reads and writes of a bank (document 01, "One command"). Assumes nothing.
 use mathlib.Core.Path.{_≡_, refl}
-use mathlib.Core.List.{List}
+use mathlib.Core.Bool.{true, false}
+use mathlib.Core.List.{List, [], _∷_}
 use Prim.Native.Nat.{ℕ}
 use lib.ListN.{getD, set}
-use Rattle.error.specs.declared.Refusal.the-variants.{BadBuffer}
+use Rattle.error.specs.declared.Refusal.the-variants.{BadBuffer, BadBudget}
 use Rattle.error.specs.declared.Verdict.the-variants as verdict
+use Rattle.registers.specs.declared.Read.{Read}
 use Rattle.registers.specs.declared.Read.the-variants.{Value, NoRegister, Refused}
-use Rattle.registers.specs.Rules.{freshGeneral, freshStatus, bankOf, readOf, putOf}
+use Rattle.registers.specs.Laws.{one-answer}
+use Rattle.registers.specs.Rules.{freshGeneral, freshStatus, refuses, bankOf, readOf, putOf}
 
 -- what the examples compute with
 opened : Unit {0}
@@ -59,6 +62,18 @@ kept : putOf 4096 bank 5 9 ≡ bank
 unfolding opened
 kept = refl
 
+-- There are 128 status registers: not one more.
+banks-of-128-and-129 : bankOf 128 bank ∷ bankOf 128 (0 ∷ bank) ∷ [] ≡ verdict.Fine ∷ verdict.Refused BadBuffer ∷ []
+unfolding opened
+banks-of-128-and-129 = refl
+
+-- A number is given exactly when its test fails: here that of a budget.
+budget-failed : refuses BadBudget false ≡ verdict.Refused BadBudget
+budget-failed = refl
+
+budget-passed : refuses BadBudget true ≡ verdict.Fine
+budget-passed = refl
+
 -- A write by the player reaches that register alone.
 written : putOf 128 bank 6 9 ≡ set (set freshStatus 5 7) 6 9
 unfolding opened
@@ -68,3 +83,18 @@ written = refl
 read-only-written : putOf 128 bank 8 9 ≡ set (set freshStatus 5 7) 8 9
 unfolding opened
 read-only-written = refl
+
+-- Any two outcomes allowed are equal: of a read, and of a write.
+abbrev otherRead : Read
+otherRead = Value 7
+
+one-read : Value 7 ≡ otherRead
+unfolding opened
+one-read = one-answer .reads 128 bank 5 (Value 7) otherRead refl refl
+
+abbrev otherBank : List ℕ
+otherBank = set bank 6 9
+
+one-bank : set bank 6 9 ≡ otherBank
+unfolding opened
+one-bank = one-answer .writes 128 bank 6 9 (set bank 6 9) otherBank refl refl

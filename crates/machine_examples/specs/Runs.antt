@@ -8,10 +8,12 @@ use Rattle.register_model.specs.Rules.{classOf, writable}
 use Rattle.nav_command.specs.Rules.{branchOf, operandOf, commandOf}
 use Rattle.nav_command.specs.Rules as nav
 use Rattle.registers.specs.Rules.{writtenStatus, written, applied, setOf, bankOf, freshGeneral, freshStatus}
+use Rattle.vm.specs.declared.Answer.{Answer}
 use Rattle.vm.specs.declared.Answer.the-variants.{Done, Refused}
 use Rattle.vm.specs.declared.Step.the-variants.{Continue, Skipped, Halted}
+use Rattle.vm.specs.Laws.{one-answer}
 use Rattle.vm.specs.Rules as vm
-use Rattle.vm.specs.Rules.{Banks, banks, after, stepped, compareOf, execSet, acted, execOf, stepOf, runFrom, runOf, commandsOf, budgetOf, answered, stepAnswer, runAnswer}
+use Rattle.vm.specs.Rules.{Banks, banks, After, after, stepped, compareOf, execSet, acted, execOf, stepOf, runFrom, runOf, commandsOf, budgetOf, answered, stepAnswer, runAnswer}
 use Rattle.marked_examples.specs.Cases.{command, nop}
 
 -- what the examples compute with
@@ -67,3 +69,18 @@ cut-commands = refl
 over-budget : runAnswer moves 0 1_000_001 fresh ≡ after freshGeneral freshStatus (Refused BadBudget)
 unfolding opened
 over-budget = refl
+
+-- Any two outcomes allowed are equal: of a step, and of a run.
+abbrev otherStep : After Answer
+otherStep = after (pair 4 3) freshStatus (Done (stepped Continue 1))
+
+one-swap : after (pair 4 3) freshStatus (Done (stepped Continue 1)) ≡ otherStep
+unfolding opened
+one-swap = one-answer .step (command 0x5000_0002 1 2) 0 1 (banks (pair 3 4) freshStatus) _ otherStep refl refl
+
+abbrev otherRun : After Answer
+otherRun = after (pair 16 9) freshStatus (Done (stepped Halted 2))
+
+one-run : after (pair 16 9) freshStatus (Done (stepped Halted 2)) ≡ otherRun
+unfolding opened
+one-run = one-answer .run moves 0 3 fresh _ otherRun refl refl
