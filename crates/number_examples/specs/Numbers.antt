@@ -4,14 +4,17 @@ use mathlib.Core.Bool.{true, false}
 use mathlib.Core.List.{[], _∷_}
 use Rattle.nav_command.specs.declared.SystemOp.the-variants.{PopUpOff}
 use Rattle.nav_command.specs.declared.Operation.the-variants.{System, Unknown}
+use Rattle.vm.specs.declared.NavRequest.{NavRequest}
 use Rattle.vm.specs.declared.NavRequest.the-variants.{JumpTitle, PlayPlayListAtMark, LinkPlayItem, SetSystem}
 use Rattle.vm.specs.declared.Step.the-variants.{Skipped, Branch}
 use Rattle.session.specs.Rules.{session, defaults}
 use Rattle.mobj_runner.specs.declared.RunOutcome.the-variants as R
 use Rattle.nav_driver.specs.declared.Option32.the-variants.{None, Some}
+use Rattle.nav_driver.specs.declared.DriveOutcome.{DriveOutcome}
 use Rattle.nav_driver.specs.declared.DriveOutcome.the-variants as D
 use Rattle.disc_check.specs.declared.DiscCheck.the-variants.{Passed, Offends}
 use Rattle.numbers.specs.Rules.{request, requestOf, stepNumbers, driveNumbers, runNumbers, checkNumbers, sessionNumbers, sessionOf, budgetNumbers, budgetsOf}
+use Rattle.numbers.proofs.Apart.{told-apart}
 
 -- A request: 11 PlayPLatMark, with the values of operand 1, a playlist, and of operand 2, a mark.
 play-at-mark : requestOf (PlayPlayListAtMark 3 9) ≡ request 11 3 9 0
@@ -76,3 +79,16 @@ budgets-told = refl
 
 budgets-read : budgetsOf (5 ∷ 6 ∷ 7 ∷ []) ≡ record { steps = 5; objects = 6; titles = 7 }
 budgets-read = refl
+
+-- Requests with the same numbers are equal, and so are outcomes.
+abbrev otherRequest : NavRequest
+otherRequest = SetSystem (Unknown 1 0x33) 5 6
+
+one-request : SetSystem (Unknown 1 0x33) 5 6 ≡ otherRequest
+one-request = told-apart .0 (SetSystem (Unknown 1 0x33) 5 6) otherRequest refl refl refl
+
+abbrev otherOutcome : DriveOutcome
+otherOutcome = D.BadTitle 7
+
+one-outcome : D.BadTitle 7 ≡ otherOutcome
+one-outcome = told-apart .1 (D.BadTitle 7) otherOutcome tt tt refl
