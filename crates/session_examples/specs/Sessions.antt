@@ -1,8 +1,9 @@
 -- Examples of sessions, budgets and frames (document 01, "Numbers and bounds"). Assumes nothing.
 use mathlib.Core.Path.{_≡_, refl}
 use mathlib.Core.Bool.{true, false}
-use mathlib.Core.List.{[], _∷_}
-use lib.ListN.{replicate}
+use mathlib.Core.List.{List, [], _∷_}
+use Prim.Native.Nat.{ℕ}
+use lib.ListN.{set, replicate}
 use Rattle.error.specs.declared.Refusal.the-variants.{BadBuffer, BadBudget, BadSession, NotAnEntry}
 use Rattle.error.specs.declared.Verdict.the-variants.{Fine, Refused}
 use Rattle.session.specs.Rules.{session, fresh, defaults, objectFrame, pushedObject, titleFrame, pushedTitle, buffersVerdict, budgetsVerdict, entryVerdict, objectsLive, titlesLive, liveVerdict, sessionVerdict}
@@ -65,3 +66,14 @@ second-title = refl
 
 pub second-title-read : titleFrame (7 ∷ 7 ∷ 7 ∷ 1 ∷ 3 ∷ 4 ∷ 9 ∷ []) 1 ≡ record { entry = 1; object = 3; pc = 4 }
 second-title-read = refl
+
+-- a room of two numbers
+abbrev two : List ℕ
+two = 7 ∷ 8 ∷ []
+
+-- A number is stored at its place, counted from 0; past the end of a room nothing changes.
+pub second-number : set two 1 9 ≡ 7 ∷ 9 ∷ []
+second-number = refl
+
+pub number-past-the-room : set two 2 9 ≡ 7 ∷ 8 ∷ []
+number-past-the-room = refl
