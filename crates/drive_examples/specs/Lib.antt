@@ -1,3 +1,4 @@
 pub mod Discs
 pub mod Titles
 pub mod Checks
+pub mod Promises
