@@ -64,7 +64,12 @@ no-room = refl
 abbrev forty : List ℕ
 forty = bytes "MOBJ0200" ++ replicate 68 0 ++ bytes2 40 ++ replicate 160 0
 
--- A text has at most 57 bytes for each object and 10 for each byte of the file: here forty lines of 61 or 62 bytes.
-pub longest-listing : leb (length (fileText forty)) (57 * 40 + 10 * 238) ≡ true
+-- A text has at most 57 bytes for each object and 10 for each byte of the file, which is 4,660 here; these are ten lines of
+-- 61 bytes and thirty of 62, more than ten for each byte.
+pub forty-lines : length (fileText forty) ≡ 2470
 unfolding opened
-longest-listing = refl
+forty-lines = refl
+
+pub within-the-bound : leb (length (fileText forty)) (57 * 40 + 10 * 238) ≡ true
+unfolding opened
+within-the-bound = refl
