@@ -1,5 +1,3 @@
 pub mod Commands
 pub mod Numbers
-pub mod Classes
-pub mod Lines
 pub mod Theorems

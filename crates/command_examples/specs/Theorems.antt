@@ -1,15 +1,12 @@
--- The theorems on one command at small inputs (document 01, module 4; the Rust's `disassemble`). Assumes nothing.
+-- The theorems on one command at small inputs (document 01, module 4). Assumes nothing.
 use mathlib.Core.Path.{_≡_, refl}
 use mathlib.Core.Bool.{true, false}
 use mathlib.Core.List.{List}
 use Prim.Native.Nat.{ℕ}
-use lib.ListN.{length, replicate}
+use lib.ListN.{replicate}
 use Rattle.laws.specs.Over.{over}
 use Rattle.error.specs.declared.Refusal.the-variants as refusal
 use Rattle.error.specs.declared.Verdict.the-variants.{Fine, Refused}
-use Rattle.text.specs.Rules.{numeral}
-use Rattle.register_model.specs.Rules.{classOf}
-use Rattle.register_model.specs.Names.{nameOf}
 use Rattle.nav_command.specs.declared.SetOp.the-variants as S
 use Rattle.nav_command.specs.declared.Operation.the-variants as O
 use Rattle.nav_command.specs.declared.CommandGroup.the-variants as G
@@ -20,14 +17,12 @@ use Rattle.nav_command.specs.Rules.{branchOf, setOf, operandOf, commandOf}
 use Rattle.nav_encode.specs.Rules.{cleared, bytesOf, same, encodable, encoding, encodeOf}
 use Rattle.nav_encode.specs.Theorems.{encoded, NoneDecode}
 use Rattle.nav_encode.proofs.Claims.{refused}
-use Rattle.nav_names.specs.Rules.{nameText}
-use Rattle.nav_list.specs.Rules.{unknownText, statusText, lineOf}
 use Rattle.nav_numbers.specs.Rules.{commandNumbers, groupNamed, operandNamed, sheetNamed, commandNamed}
 use Rattle.command_examples.specs.Commands.{command, p2, move}
 
 -- what the examples compute with
 opened : Unit {0}
-unfolding over numeral classOf nameOf branchOf setOf operandOf commandOf cleared bytesOf same encodable encodeOf nameText unknownText statusText lineOf commandNumbers groupNamed operandNamed sheetNamed commandNamed
+unfolding over branchOf setOf operandOf commandOf cleared bytesOf same encodable encodeOf commandNumbers groupNamed operandNamed sheetNamed commandNamed
 opened = tt
 
 -- room lent to the encoder
@@ -88,13 +83,9 @@ register-word : cleared (command 0x5000_0001 5 0x7FFF_F010) ≡ command 0x5000_0
 unfolding opened
 register-word = refl
 
--- An unknown code with two secondary registers of the longest name has the longest line; the numbers of this command name it.
-abbrev long : List ℕ
+-- The numbers of a command name it: here an unknown code with two secondary registers.
+abbrev pub long : List ℕ
 long = command 0x5F00_00FF 0xC000_0030 0xC000_0030
-
-longest-line : length (lineOf (commandOf long)) ≡ 102
-unfolding opened
-longest-line = refl
 
 named-by-its-numbers : commandNamed (commandNumbers (commandOf long)) ≡ commandOf long
 unfolding opened

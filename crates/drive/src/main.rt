@@ -335,7 +335,6 @@ fn print_answer(answer: DriveAnswer) -> Ended {
     }
 }
 
-// How the drive ended: its last outcome, and whether it waits for an answer still.
 // Refusals 1 to 4 are those of a file, and the index file is judged first.
 fn print_refused(why: Refusal, index: &[u8]) {
     say(b"ended: refused");
@@ -349,6 +348,7 @@ fn print_refused(why: Refusal, index: &[u8]) {
     say(b"\n");
 }
 
+// How the drive ended: its last outcome, and whether it waits for an answer still.
 fn print_last(last: DriveEnd) {
     let outcome = last.outcome;
     print_outcome(outcome);

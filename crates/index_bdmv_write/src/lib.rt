@@ -19,8 +19,7 @@ ghost use Rattle.common.specs.Rules.{left, leftAs};
 ghost use Rattle.index_bdmv_write.specs.Rules.{entries, tailBytes, entryBytes, entryOfRecord, appBytes, headBytes, specialBytes, titleBytes, titlesOf, sizeOf, fileOf, appFits, kindFits, entryFits, lengthsFit, encodable, writeVerdict, writeOf, WritingThenReading, ReadingThenWriting};
 ghost use Rattle.index_bdmv_write.specs.Laws.{AppFits, Good, Accepted};
 
-// The file of a record: its version, its AppInfo, and for each entry (first playback, top menu, the titles) a type, 1 HDMV or 2 BD-J,
-// a playback type, an object and a name of five bytes, of which its type uses one.
+// The file of a record: version, AppInfo, and each entry's type (1 HDMV, 2 BD-J), playback type, object and name of five bytes.
 pub fn write(
     version: u32,
     app: AppInfoBdmv,

@@ -7,8 +7,7 @@ ghost use Rattle.register_model.specs.Rules.{classTable, classOf};
 ghost use Rattle.register_model.specs.Names.{reserved};
 ghost use Rattle.nav_names.specs.Rules.{mnemonic, nameText};
 
-// Operations by their numbers: a row or a part of one a function, and what is past it goes to the next. So the proofs stay
-// small, and the compiler makes one jump of all rows.
+// Operations by their numbers, a row or a part of one a function, so that proofs stay small; the compiler makes one jump of all.
 fn put_still(out: &mut [u8], at: usize, number: u8) -> usize
     requires { ⌜ 43 ≤ number ⌝ }
     ensures { λ r. ⌜ Wrote (now (out .entry)) at (mnemonic number) (now (out .exit)) r ⌝ }

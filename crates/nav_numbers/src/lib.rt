@@ -138,8 +138,7 @@ fn command_numbers(command: DecodedCommand) -> [u32; 13]
     ]
 }
 
-// The command as it stands on a disc: the same numbers without the decoded record, and without a branch, since those of
-// random commands can't be predicted.
+// The same numbers straight from the bytes, without a branch: those of random commands can't be predicted.
 
 // One of two numbers that are both at hand.
 fn either(test: bool, yes: u32, no: u32) -> u32
@@ -160,8 +159,7 @@ fn row_of(count: u32, first: u32) -> Row
     Row { count, first }
 }
 
-// The row of the sheet that the low five bits of a command's first byte name, its group and sub-group. Each has its arm, so
-// that the compiler makes a table of them.
+// The row that group and sub-group name, the low five bits of the first byte; each has its arm, which makes a table of them.
 fn row_at(low: u8) -> Row
     ensures { λ r. ⌜ Numbered (rowIn (groupOf (low / 8)) (low % 8)) r ⌝ }
 {

@@ -1,3 +1,4 @@
 pub mod Reading
 pub mod Texts
 pub mod Lent
+pub mod Classes

@@ -85,8 +85,7 @@ fn glyph(digit: u32) -> u8
     }
 }
 
-// How many digits a number has in a base. Short ones are told by tests that are comparisons with constants, where the base is
-// one.
+// How many digits a number has in a base; where that is a constant, short numbers are told by comparisons with constants.
 fn digits(base: u32, n: u32) -> usize
     requires { ⌜ 1 < base ⌝ }
     ensures { λ r. ⌜ (r ≡ length (numeral base n)) × (r ≤ 32) ⌝ }

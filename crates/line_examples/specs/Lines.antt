@@ -2,6 +2,7 @@
 use mathlib.Core.Path.{_≡_, refl}
 use mathlib.Core.List.{List, _++_}
 use Prim.Native.Nat.{ℕ}
+use lib.ListN.{length}
 use Rattle.laws.specs.Over.{over}
 use Rattle.error.specs.declared.Refusal.the-variants.{NoRoom}
 use Rattle.text.specs.Rules.{bytes, numeral}
@@ -14,7 +15,8 @@ use Rattle.nav_command.specs.Rules.{branchOf, setOf, operandOf, numberOf, comma
 use Rattle.nav_names.specs.Rules.{mnemonic, nameText}
 use Rattle.nav_list.specs.declared.Listed.the-variants as listed
 use Rattle.nav_list.specs.Rules.{unknownText, immediateText, generalText, statusText, lineOf, lineAt, listing, listOf}
 use Rattle.command_examples.specs.Commands.{command, p2, move}
+use Rattle.command_examples.specs.Theorems.{long}
 
 -- room for twelve bytes of text
 abbrev room : List ℕ
@@ -58,3 +60,8 @@ twelve-bytes = refl
 listed-from-2 : listOf (bytes "..................") 2 (lineOf move) ≡ listing (listed.At 15) (bytes "..Move r5, 0x10...")
 unfolding over numeral mnemonic immediateText generalText lineOf listOf
 listed-from-2 = refl
+
+-- An unknown code with two secondary registers of the longest name has the longest line.
+longest-line : length (lineOf (commandOf long)) ≡ 102
+unfolding numeral classOf nameOf setOf operandOf commandOf nameText unknownText statusText lineOf
+longest-line = refl

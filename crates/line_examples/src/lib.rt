@@ -1,0 +1,1 @@
+// Computed examples of names and of lines, in specs/; there is no code here.
