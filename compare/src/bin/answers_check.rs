@@ -1,6 +1,4 @@
-//! Discs for the disc check, each with the answer that the Rust's own machine gives: every command is stepped with every
-//! register holding each of some numbers, and the first that asks for what the disc lacks is named.
-//! `cargo run --release --bin answers_check > ../crates/replay_check/stdin`
+//! Discs for the disc check, with what the Rust's own machine asks for; compare/README.md says what the list holds.
 use mescjadro_compare::bdmv::index_bdmv::{AppInfoBdmv, IndexBdmv, IndexEntry, IndexObjectType, TitleEntry};
 use mescjadro_compare::bdmv::movie_object::{MovieObject, MovieObjects, NavCommand};
 use mescjadro_compare::bdmv::vm::{HdmvVm, NavRequest, Step};

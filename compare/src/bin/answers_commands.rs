@@ -1,9 +1,4 @@
-//! Commands with the Rust's answers, as `replay_commands` reads them from its standard input.
-//!
-//! A record: the command's twelve bytes; the same with every bit cleared whose clearing leaves the decoded command as it is;
-//! operand count, group, sub-group, the two flags as bits 0 and 1; the operation's number on the code sheet, 0 for an unknown
-//! one, with its sub-group and selector; each operand's kind (0 absent, 1 immediate, 2 general, 3 status, 4 secondary) and
-//! value (4 bytes, big-endian); the listing's length and its bytes.
+//! Commands with the Rust's answers; compare/README.md says what the list holds.
 use mescjadro_compare::bdmv::nav_command::{CommandGroup, DecodedCommand, Operand, Operation, RegisterBank};
 use mescjadro_compare::chance::Chance;
 use mescjadro_compare::numbers::{SHEET, cleared};

@@ -1,15 +1,4 @@
-//! Runs and resumes of the driver and of the runner with the Rust's answers, as `replay_drives` reads them from its
-//! standard input.
-//!
-//! First the number of cases (2 bytes) and the place of the first one (4), then the discs, then the cases; all numbers are
-//! big-endian. A disc: the lengths of its index and of its object file (2 each), then both. A case: the place of its disc
-//! (4), then its calls (1). A call is one of two.
-//! - 0 run and 1 resume of the runner, 2 run and 3 resume of the driver: the object or entry (4), budgets of steps, objects
-//!   and titles (2 each); the six numbers of the outcome and the six of the session (4 each); the live object frames (8
-//!   each) and title frames (12 each).
-//! - 4, a register that the player writes: 0 general or 1 status (1), number (2), value (4).
-//!
-//! After each call stand the registers that then are not zero (2, then 7 each, as written by the player).
+//! Runs and resumes of the runner and of the driver, with the Rust's answers; compare/README.md says what the list holds.
 use mescjadro_compare::bdmv::index_bdmv::{AppInfoBdmv, IndexBdmv, IndexEntry, IndexObjectType};
 use mescjadro_compare::bdmv::mobj_runner;
 use mescjadro_compare::bdmv::movie_object::{MovieObject, MovieObjects, NavCommand};

@@ -1,20 +1,4 @@
-//! Object files and index files, good and damaged, each with what the Rust reads from it, lists and writes again.
-//! `cargo run --release --bin answers_files > ../crates/replay_files/stdin`
-//!
-//! The seed is fixed, so that the list is the same each time. All numbers are big-endian. The list is a count (2 bytes) and so
-//! many records: a kind (0 an object file, 1 an index file); the file; how many numbers are asked for (2 bytes) and they (4 each);
-//! the answer. File and answer are written as runs: how many runs (2 bytes), and each as how often (4), how long (2) and the bytes.
-//!
-//! The answer on an object file: its refusal, and the listing program's. Of a file that is read: the version; the number of
-//! objects; for each asked object a 0, its three flags and its number of commands (2), or 10, and the measure of its commands. Of a
-//! file that is listed: the measures of all objects' flags, of all numbers of commands, of the listing and of what the writer makes
-//! of what was read, and whether that is the file. A measure is a length (4) and a sum (4), FNV-1a of 32 bits.
-//! The answer on an index file: its refusal. Of a file that is read: the version; the AppInfo's four fields; first playback and top
-//! menu; the number of titles; for each asked entry what stands there (0 nothing, 1 playback and object, 2 playback and name, or 10)
-//! and where it leads (0 nowhere, 1 and the object, or 10); of at most 300 titles the measure of what the writer makes of them, and
-//! whether that is the file.
-//!
-//! Where the Rust only says that it refuses a file, the number comes from the paper's rules (src/paper/files.rs).
+//! Object files and index files, good and damaged, with the Rust's answers; compare/README.md says what the list holds.
 use mescjadro_compare::bdmv::index_bdmv::{AppInfoBdmv, IndexBdmv, IndexEntry, IndexObjectType, TitleEntry};
 use mescjadro_compare::bdmv::movie_object::{MovieObject, MovieObjects, NavCommand};
 use mescjadro_compare::chance::Chance;

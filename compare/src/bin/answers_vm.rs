@@ -1,8 +1,4 @@
-//! Cases for the command machine with the Rust's answers, as `replay_vm` reads them from its standard input.
-//!
-//! A case: the number of commands (2 bytes), pc and step budget (4 each), registers to set (2, then 7 each: 0 general or 1
-//! status, number, value), the commands, calls (1, then 25 each: 0 a step or 1 a run, then the answer's five numbers and pc),
-//! and the registers that then are not zero (2, then 7 each). All numbers are big-endian; the number of cases stands first.
+//! Cases for the command machine, with the Rust's answers; compare/README.md says what the list holds.
 use mescjadro_compare::bdmv::movie_object::NavCommand;
 use mescjadro_compare::bdmv::vm::{HdmvVm, Step};
 use mescjadro_compare::chance::Chance;

@@ -1,5 +1,4 @@
-//! What the program `drive` prints, from the Rust: a run from an entry and the resumes that answer it.
-//! Takes the two files and entry=N, steps=N, objects=N, titles=N, resumes=N, rN=V, pN=V, as `drive` does.
+//! What the program `drive` prints, from the Rust, with the words that `drive` takes.
 use mescjadro_compare::bdmv::index_bdmv::{IndexBdmv, TitleEntry};
 use mescjadro_compare::bdmv::mobj_runner;
 use mescjadro_compare::bdmv::movie_object::MovieObjects;

@@ -1,5 +1,4 @@
-//! The listing program in the Rust: one object file on standard input, each object's listing and a line end, or why it is
-//! refused. What it prints is what crates/list must print.
+//! The listing program in the Rust: what crates/list must print of the object file on standard input.
 use mescjadro_compare::bdmv::movie_object::MovieObjects;
 use mescjadro_compare::paper::files;
 use std::io::{Read, Write};

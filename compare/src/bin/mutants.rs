@@ -1,5 +1,4 @@
-//! Builds the comparison with each change of mutants.txt in the Rust's copy, and sees whether the comparison sees it.
-//! `compare/mutants` runs it; it writes docs/MUTANTS.md.
+//! Builds the comparison with each change of mutants.txt in the Rust's copy, sees whether it sees it, and writes docs/MUTANTS.md.
 use std::fmt::Write;
 use std::path::{Path, PathBuf};
 use std::process::{Command, Stdio};

@@ -1,5 +1,4 @@
-//! Mescjadro's library: what its calls answer. Each wrapper also sees that a refusal left the outputs as they were and
-//! that nothing was written beyond an answer, and panics otherwise.
+//! The library's calls; each wrapper sees that a refusal alters nothing and that nothing is written beyond an answer.
 pub mod lent;
 pub mod machine;
 pub mod raw;

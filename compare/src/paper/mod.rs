@@ -1,5 +1,4 @@
-//! A short reading of document 01 for what the Rust doesn't have: the numbers of refusals and their order, and lent
-//! frame room. It knows nothing of the library.
+//! A short reading of document 01 for what the Rust doesn't have: refusals and their order, and lent frame room.
 pub mod check;
 pub mod drives;
 pub mod files;

@@ -6,6 +6,7 @@ use lib.ListN.{replicate}
 use Rattle.laws.specs.Firsts.{all}
 use Rattle.laws.specs.Over.{over}
 use Rattle.text.specs.Rules.{bytes, numeral}
+use Rattle.common.specs.Rules.{be4}
 use Rattle.nav_command.specs.Rules.{branchOf, setOf, operandOf, commandOf}
 use Rattle.nav_encode.specs.Rules.{wordBytes, bytesOf, same, encodable, encodeOf}
 use Rattle.nav_names.specs.Rules.{mnemonic}
@@ -16,7 +17,7 @@ use Rattle.command_calls.specs.Rules.{decodeCall, encodeCall, listComman
 
 -- what the examples compute with
 opened : Unit {0}
-unfolding all over numeral branchOf setOf operandOf commandOf bytesOf same encodable encodeOf mnemonic immediateText generalText lineOf listOf commandNumbers groupNamed operandNamed sheetNamed commandNamed isCommand decodeCall encodeCall listCommandCall
+unfolding all over numeral branchOf setOf operandOf be4 commandOf bytesOf same encodable encodeOf mnemonic immediateText generalText lineOf listOf commandNumbers groupNamed operandNamed sheetNamed commandNamed isCommand decodeCall encodeCall listCommandCall
 opened = tt
 
 -- the bytes of a command's three words, and P2

@@ -1,5 +1,4 @@
--- Examples of a command as thirteen numbers, and back, and of what they are made of (include/mescjadro.h, "one command";
--- document 01, module 4). Assumes nothing.
+-- Examples of a command as thirteen numbers, and back (include/mescjadro.h, "one command"; document 01, module 4). Assumes nothing.
 use mathlib.Core.Path.{_≡_, refl}
 use mathlib.Core.Bool.{true, false}
 use mathlib.Core.List.{List, [], _∷_}
@@ -13,6 +12,7 @@ use Rattle.nav_command.specs.declared.SystemOp.the-variants as Y
 use Rattle.nav_command.specs.declared.Operation.the-variants as O
 use Rattle.nav_command.specs.declared.RegisterBank.the-variants.{PsrSecondary}
 use Rattle.nav_command.specs.declared.Operand.the-variants.{Register}
+use Rattle.common.specs.Rules.{be4}
 use Rattle.nav_command.specs.Rules.{branchNumber, compareNumber, setNumber, systemNumber, numberOf, groupOf, branchOf, setOf, operationOf, operandOf, commandOf}
 use Rattle.nav_numbers.specs.Pieces.{place, placeOf}
 use Rattle.nav_numbers.specs.Rules.{flagNumber, pair, unknownOf, operandPair, commandNumbers, groupNamed, operandNamed, sheetNamed, commandNamed, isCommand}
@@ -20,7 +20,7 @@ use Rattle.command_examples.specs.Commands.{command, p2, move}
 
 -- what the examples compute with
 opened : Unit {0}
-unfolding all branchOf setOf operandOf commandOf commandNumbers groupNamed operandNamed sheetNamed commandNamed isCommand
+unfolding all branchOf setOf operandOf be4 commandOf commandNumbers groupNamed operandNamed sheetNamed commandNamed isCommand
 opened = tt
 
 -- P2: two operands; group Set; the second flag; Move, number 22 of the sheet; general register 5, and the immediate 16
@@ -76,8 +76,7 @@ kind-and-value = refl
 secondary-pair : operandPair (Register PsrSecondary 48) ≡ pair 4 48
 secondary-pair = refl
 
--- An operation by the low five bits of byte 0, the branch option, the compare code and the set code: Move is code 1 of group
--- Set, and branch option 10 of sub-group 3 is unknown.
+-- An operation by group and codes: Move is code 1 of group Set, and branch option 10 of sub-group 3 is unknown.
 move-at : placeOf (operationOf (groupOf (16 / 8)) (16 % 8) 0 0 1) ≡ place 22 0 0
 unfolding opened
 move-at = refl
@@ -86,8 +85,7 @@ unknown-at : placeOf (operationOf (groupOf (3 / 8)) (3 % 8) 10 0 1) ≡ place 0 
 unfolding opened
 unknown-at = refl
 
--- An operand by whether it is there, whether it is immediate, and its word: an absent one has no value, and a register's
--- number is the low 12 bits.
+-- An operand from its word: an absent one has no value, and a register's number is the low 12 bits.
 absent-at : operandPair (operandOf false true 7) ≡ pair 0 0
 unfolding opened
 absent-at = refl

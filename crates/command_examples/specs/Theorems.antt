@@ -1,28 +1,24 @@
 -- The theorems on one command at small inputs (document 01, module 4). Assumes nothing.
 use mathlib.Core.Path.{_≡_, refl}
-use mathlib.Core.Bool.{true, false}
 use mathlib.Core.List.{List}
 use Prim.Native.Nat.{ℕ}
 use lib.ListN.{replicate}
 use Rattle.laws.specs.Over.{over}
 use Rattle.error.specs.declared.Refusal.the-variants as refusal
 use Rattle.error.specs.declared.Verdict.the-variants.{Fine, Refused}
-use Rattle.nav_command.specs.declared.SetOp.the-variants as S
-use Rattle.nav_command.specs.declared.Operation.the-variants as O
 use Rattle.nav_command.specs.declared.CommandGroup.the-variants as G
-use Rattle.nav_command.specs.declared.RegisterBank.the-variants.{Gpr}
-use Rattle.nav_command.specs.declared.Operand.the-variants.{Immediate, Register}
 use Rattle.nav_command.specs.declared.DecodedCommand.{DecodedCommand}
+use Rattle.common.specs.Rules.{be4}
 use Rattle.nav_command.specs.Rules.{branchOf, setOf, operandOf, commandOf}
 use Rattle.nav_encode.specs.Rules.{cleared, bytesOf, same, encodable, encoding, encodeOf}
 use Rattle.nav_encode.specs.Theorems.{encoded, NoneDecode}
 use Rattle.nav_encode.proofs.Claims.{refused}
 use Rattle.nav_numbers.specs.Rules.{commandNumbers, groupNamed, operandNamed, sheetNamed, commandNamed}
-use Rattle.command_examples.specs.Commands.{command, p2, move}
+use Rattle.command_examples.specs.Commands.{command, p2, moveIn, move}
 
 -- what the examples compute with
 opened : Unit {0}
-unfolding over branchOf setOf operandOf commandOf cleared bytesOf same encodable encodeOf commandNumbers groupNamed operandNamed sheetNamed commandNamed
+unfolding over branchOf setOf operandOf be4 commandOf cleared bytesOf same encodable encodeOf commandNumbers groupNamed operandNamed sheetNamed commandNamed
 opened = tt
 
 -- room lent to the encoder
@@ -52,17 +48,7 @@ encoded-back = refl
 
 -- Move, which stands in the group Set, in another group
 abbrev misplaced : DecodedCommand
-misplaced =
-    record {
-      «operand_count» = 2;
-      group = G.Branch;
-      «sub_group» = 0;
-      «imm_op1» = false;
-      «imm_op2» = true;
-      operation = O.Set S.Move;
-      operand1 = Register Gpr 5;
-      operand2 = Immediate 0x10;
-    }
+misplaced = moveIn G.Branch
 
 -- Not encodable: no twelve bytes decode to the command. P2 decodes to its own, which has no room in eleven bytes.
 none-decode : NoneDecode misplaced
@@ -73,8 +59,7 @@ some-decode : encodeOf (commandOf p2) (room 11) .answer ≡ Refused refusal.NoRo
 unfolding opened
 some-decode = refl
 
--- Bytes decode alike exactly if they differ in ignored bits alone: here in those of `worn`, and in bits 30..12 of a general
--- register's word.
+-- Bytes decode alike exactly if they differ in ignored bits alone: those of `worn`, and bits 30..12 of a general register.
 decoded-alike : commandOf worn ≡ commandOf bare
 unfolding opened
 decoded-alike = refl

@@ -10,8 +10,10 @@ use lib.ListN.{length, getD, take, drop, replicate, length-drop, length-replicat
 use lib.Seq.{getD-append-add, length-take-le, ext-getD}
 use borrow.Author.Tests.{leb-true, leb-false, le-ltb, ltb-false, eq-eqb, eqb-true}
 use Rattle.laws.specs.Part.{part-cons, part-at}
+use Rattle.error.specs.Rules.{refusedIf}
+use Rattle.error.specs.Laws.{both-fine, not-refused}
 use Rattle.error.specs.declared.Refusal.{Refusal}
-use Rattle.error.specs.declared.Refusal.the-variants.{TooLong, BadHeader, BadBody}
+use Rattle.error.specs.declared.Refusal.the-variants.{TooLong, BadHeader, BadBody, NoRoom}
 use Rattle.error.specs.declared.Verdict.the-variants.{Fine, Refused}
 use Rattle.common.specs.declared.Reader.{Reader}
 use Rattle.common.specs.declared.Moved.{Moved}
@@ -23,7 +25,7 @@ use Rattle.common.specs.declared.Half.the-variants as half
 use Rattle.common.specs.declared.Word.{Word}
 use Rattle.common.specs.declared.Word.the-variants as word
 use Rattle.common.specs.declared.Written.the-variants.{Bytes}
-use Rattle.common.specs.Rules.{be2, be4, bytes2, bytes4, reader, seekOf, readU8, readU16, readU32, limit, headerOf, left}
+use Rattle.common.specs.Rules.{be2, be4, bytes2, bytes4, reader, seekOf, readU8, readU16, readU32, limit, headerOf, roomVerdict, left}
 
 -- ---- numbers in a longer list
 
@@ -152,10 +154,24 @@ pub be2-past : (s : List ℕ) (at : ℕ) → length s ≤ at → be2 s at ≡ 0
 unfolding be2
 be2-past s at h = rw (List·getD-eq-default s 0 {n = at} h, List·getD-eq-default s 0 {n = at + 1} (omega arith))
 
--- a number of two bytes is below 65,536
+pub be4-past : (s : List ℕ) (at : ℕ) → length s ≤ at → be4 s at ≡ 0
+unfolding be4
+be4-past s at h =
+    rw (
+      List·getD-eq-default s 0 {n = at} h,
+      List·getD-eq-default s 0 {n = at + 1} (omega arith),
+      List·getD-eq-default s 0 {n = at + 2} (omega arith),
+      List·getD-eq-default s 0 {n = at + 3} (omega arith),
+    )
+
+-- a number of two bytes is below 65,536, and one of four below 4,294,967,296
 pub be2-below : (s : List ℕ) (at : ℕ) → ((i : ℕ) → getD s i 0 < 256) → be2 s at < 65536
 unfolding be2
 be2-below s at h = omega (arith, h at, h (at + 1))
+
+pub be4-below : (s : List ℕ) (at : ℕ) → ((i : ℕ) → getD s i 0 < 256) → be4 s at < 4294967296
+unfolding be4
+be4-below s at b = omega (arith, b at, b (at + 1), b (at + 2), b (at + 3))
 
 -- ---- bytes that were read are written back
 
@@ -208,7 +224,17 @@ zeros-at s at n h z =
     e : length (take n (drop at s)) ≡ n
     e = length-take-le n (drop at s) (omega (arith, length-drop at s))
 
--- ---- what a writer leaves
+-- ---- what a writer has room for, and what it leaves
+
+pub room-tells : (size room : ℕ) → roomVerdict size room ≡ Fine → (size ≤ limit) × (size ≤ room)
+unfolding roomVerdict
+room-tells size room e =
+    let p = both-fine (refusedIf (ltb limit size) NoRoom) _ e in
+    (ltb-false _ _ (not-refused _ NoRoom (p .0)), ltb-false _ _ (not-refused _ NoRoom (p .1)))
+
+pub room-made : (size room : ℕ) → size ≤ limit → size ≤ room → roomVerdict size room ≡ Fine
+unfolding roomVerdict
+room-made size room short fits = simp (le-ltb _ _ short, le-ltb _ _ fits)
 
 pub left-is : {out out′ : List ℕ} {n n′ : ℕ} → out ≡ out′ → n ≡ n′ → left out (Bytes n) ≡ left out′ (Bytes n′)
 left-is e f = cc

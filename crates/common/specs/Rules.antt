@@ -1,12 +1,12 @@
--- Big-endian reads at a position, and the test that every file of the disc begins with (document 01, module 2 and "Numbers and bounds").
--- Assumes nothing.
+-- Big-endian reads and writes, and the tests that all files share (document 01, module 2 and "Numbers and bounds"). Assumes nothing.
 use mathlib.Core.Bool.{cond}
 use mathlib.Core.List.{List, [], _∷_}
 use Prim.Native.Nat.{ℕ, _+_, _*_, _/_, _%_}
 use lib.Dec.{leb, ltb, eqb}
 use lib.ListN.{length, getD}
 use Rattle.laws.specs.Over.{over}
-use Rattle.error.specs.declared.Refusal.the-variants.{TooLong, BadHeader, BadBody}
+use Rattle.error.specs.Rules.{firstOf, refusedIf}
+use Rattle.error.specs.declared.Refusal.the-variants.{TooLong, BadHeader, BadBody, NoRoom}
 use Rattle.error.specs.declared.Verdict.{Verdict}
 use Rattle.error.specs.declared.Verdict.the-variants as verdict
 use Rattle.common.specs.declared.Reader.{Reader}
@@ -62,6 +62,10 @@ headerOf kind s =
     cond (ltb limit (length s)) (verdict.Refused TooLong)
     (cond (ltb (length s) 40) (verdict.Refused BadHeader)
     (cond (eqb (be4 s 0) kind) verdict.Fine (verdict.Refused BadHeader)))
+
+-- 5: a file of so many bytes is over the limit, or longer than the lent buffer.
+unfoldable pub roomVerdict : ℕ → ℕ → Verdict
+roomVerdict size room = firstOf (refusedIf (ltb limit size) NoRoom) (refusedIf (ltb room size) NoRoom)
 
 -- What a writer leaves: its answer beside the lent buffer.
 pub record Left : Type 0 where

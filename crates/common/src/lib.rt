@@ -6,11 +6,11 @@ ghost use Prim.Native.Nat.{_+_, _*_, _≤_};
 ghost use lib.ListN.{length, getD, replicate};
 ghost use Rattle.laws.specs.Firsts.{allBelow};
 ghost use Rattle.laws.specs.Over.{over};
-ghost use Rattle.common.specs.Rules.{be2, be4, bytes2, bytes4, reader, seekOf, readU8, readU16, readU32, headerOf};
+ghost use Rattle.common.specs.Rules.{be2, be4, bytes2, bytes4, reader, seekOf, readU8, readU16, readU32, headerOf, roomVerdict};
 ghost use Rattle.common.specs.Pieces.{AtMost};
 
 // A file has at most so many bytes.
-pub const LIMIT: usize = 16777216;
+const LIMIT: usize = 16777216;
 
 // The position alone; the file is lent to each read.
 pub struct Reader {
@@ -170,6 +170,21 @@ pub fn half_at(s: &[u8], at: usize) -> u16
     0
 }
 
+// The same of the four bytes.
+pub fn word_at(s: &[u8], at: usize) -> u32
+    ensures { λ r. ⌜ r ≡ be4 (now (s .entry)) at ⌝ }
+{
+    if at < s.len() {
+        return join32(
+            s[at],
+            byte_at(s, at + 1),
+            byte_at(s, at + 2),
+            byte_at(s, at + 3),
+        );
+    }
+    0
+}
+
 // Whether a file is neither too long (1) nor without the header of its kind (2).
 pub fn header(file: &[u8], kind: u32) -> Verdict
     ensures { λ r. ⌜ r ≡ headerOf kind (now (file .entry)) ⌝ }
@@ -185,6 +200,19 @@ pub fn header(file: &[u8], kind: u32) -> Verdict
     } else {
         Verdict::Refused(Refusal::BadHeader)
     }
+}
+
+// Whether a file of so many bytes is within the limit and goes into the lent room (5).
+pub fn room_verdict(size: usize, room: usize) -> Verdict
+    ensures { λ r. ⌜ r ≡ roomVerdict size room ⌝ }
+{
+    if LIMIT < size {
+        return Verdict::Refused(Refusal::NoRoom);
+    }
+    if room < size {
+        return Verdict::Refused(Refusal::NoRoom);
+    }
+    Verdict::Fine
 }
 
 // Whether all bytes are below a bound.

@@ -27,8 +27,7 @@ numberOf v end = record { value = v; end = end; fits = true }
 abbrev pub noNumber : ℕ → Decimal
 noNumber end = record { value = 0; end = end; fits = false }
 
--- The digits before place `at` say v, and the rest of the word goes on. A number ends before the first byte that is no digit;
--- one over 4,294,967,295 is none.
+-- The digits before `at` say v; the number ends before the first byte that is no digit, and over 4,294,967,295 it is none.
 unfoldable pub goesOn : ℕ → ℕ → List ℕ → Decimal
 goesOn v at [] = numberOf v at
 goesOn v at (b ∷ rest) =

@@ -1,5 +1,4 @@
--- On a passed disc no drive ends in bad object or bad title: every turn keeps the invariant `Good`, and no end of an object asks
--- for what the disc lacks. Assumes nothing.
+-- On a passed disc no drive ends in bad object or bad title: every turn keeps the invariant `Good`. Assumes nothing.
 use mathlib.Core.Path.{_≡_, refl, sym, ap, _∙_}
 use mathlib.Core.Bool.{Bool, true, false, not, _||_}
 use mathlib.Core.List.{List}

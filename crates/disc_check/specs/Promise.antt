@@ -98,8 +98,7 @@ abbrev pub NeverBadAnswer : DriveAnswer → Type 0
 NeverBadAnswer (Refused r) = Unit {0}
 NeverBadAnswer (Drove d) = NotBad (d .outcome)
 
--- The invariant of the sessions that a drive passes through: the current object and those of all live frames are on the disc,
--- entries are entries, and the depths lie within the rooms.
+-- The sessions that a drive passes through: all their objects are on the disc, entries are entries, depths lie within the rooms.
 pub record Good (n : ℕ) (f t : List ℕ) (s : Session) : Type 0 where
   pub here : s .object < n
   pub objects : objectsLive f n (s .odepth) ≡ true
@@ -108,8 +107,7 @@ pub record Good (n : ℕ) (f t : List ℕ) (s : Session) : Type 0 where
   pub titleRooms : s .tdepth ≤ titleRoom t
   pub entry : s .entry ≤ 65537
 
--- What was left by a run from an entry that leads to an object of the disc, and by any number of resumes after it, with any
--- registers, budgets and frame room: files, session and frames come back as they were left.
+-- What a run from an entry that leads to an object leaves, and resumes after it, with any registers, budgets and frame room.
 pub data Driven (x file : List ℕ) : Session → List ℕ → List ℕ → Type 0 where
   started : (b : Budgets) (e : ℕ) (w : Rooms Session) (d : DriveEnd) → leadsNowhere x (countOf file) e ≡ false
       → answerOf x file b (Entry e) w .it ≡ Drove d

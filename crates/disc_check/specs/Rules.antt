@@ -1,5 +1,4 @@
--- What the disc check computes (document 01: it answers yes, or no with the first offending object and command in file
--- order). That this is what it should compute is specs/Promise.antt. Assumes nothing.
+-- What the disc check computes (document 01, the check); that it should is specs/Promise.antt. Assumes nothing.
 use mathlib.Core.Bool.{Bool, true, false, cond}
 use mathlib.Core.List.{List}
 use Prim.Native.Nat.{ℕ, zero, suc, _*_, _/_, _%_}

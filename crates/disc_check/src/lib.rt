@@ -190,7 +190,7 @@ fn check_with(index: &[u8], file: &[u8], places: &mut [u32]) -> DiscCheck
     if let Verdict::Refused(refusal) = objects {
         return DiscCheck::Refused(refusal);
     }
-    let count = movie_object::object_count(file);
+    let count = movie_object::count_of(file);
     first_object(index, file, places, count)
 }
 
@@ -206,14 +206,12 @@ pub fn check(index: &[u8], file: &[u8]) -> DiscCheck
     check_with(index, file, &mut many)
 }
 
-// Demand 3, first half: of two readable files, the check passes exactly those of which no command, met with any register
-// contents, asks for an object that the disc lacks or a title that leads to no object of the disc; and it names the first.
+// Demand 3: the check names the first command that, with some registers, asks for what the disc lacks, and else passes.
 pub fn check_is_exact()
     ensures { λ _. ⌜ Exact ⌝ }
 {}
 
-// Demand 3, second half: a passed disc, started at an entry that leads to one of its objects, never ends a run or a later
-// resume in bad object or bad title, and the session that each call leaves is never refused.
+// Demand 3: a passed disc, started at an entry that leads to an object, never ends in bad object or bad title, nor is its session refused.
 pub fn passed_disc_is_never_bad()
     ensures { λ _. ⌜ NeverBad ⌝ }
 {}

@@ -7,7 +7,7 @@ use Rattle.laws.specs.Firsts.{sum, blocks}
 use Rattle.common.specs.Rules.{be2, be4, bytes2, bytes4, headerOf}
 use Rattle.index_bdmv.specs.Rules.{appInfoVerdict, entryVerdict as indexEntry, entriesVerdict, startOf as indexStart, statedVerdict, titlesVerdict, indexesVerdict, verdictOf as indexVerdict, titleCount, placeOf, resolveOf}
 use Rattle.index_bdmv_write.specs.Rules as index
-use Rattle.movie_object.specs.Rules.{countOf, next, place, bodyOf, verdictOf, commandCount, commandsOf}
+use Rattle.movie_object.specs.Rules.{countOf, next, place, bodyOf, verdictOf, commandsOf}
 use Rattle.movie_object_write.specs.Rules.{cmdsAt, objectBytes, object, headBytes, sizeOf, fileOf}
 use Rattle.nav_command.specs.Rules.{branchOf, setOf as setCode, operandOf, commandOf}
 use Rattle.registers.specs.Rules.{banks, freshGeneral, freshStatus, written, applied, setOf}
@@ -25,7 +25,7 @@ use Rattle.player_calls.specs.Examples.{command, p2}
 
 -- what the examples compute with
 opened : Unit {0}
-unfolding sum blocks be2 be4 bytes2 bytes4 headerOf appInfoVerdict indexEntry entriesVerdict indexStart statedVerdict titlesVerdict indexesVerdict indexVerdict titleCount placeOf resolveOf index.titlesOf index.tailBytes index.entryBytes index.entryOfRecord index.headBytes index.specialBytes index.fileOf countOf next place bodyOf verdictOf commandCount commandsOf cmdsAt objectBytes object headBytes sizeOf fileOf branchOf setCode operandOf commandOf written applied setOf execSet acted execOf stepOf runFrom runOf buffersVerdict budgetsVerdict entryVerdict objectsLive titlesLive liveVerdict sessionVerdict objects.returned objects.turnOf objects.driveOf objects.startOf objects.verdictFor objects.answerOf titleValue entered returned turnOf titlesOf startOf goOnOf verdictFor answerOf leadsNowhere commandOffends firstCommand firstObject checkOf lengthsFit driverCall runnerCall checkCall
+unfolding sum blocks be2 be4 bytes2 bytes4 headerOf appInfoVerdict indexEntry entriesVerdict indexStart statedVerdict titlesVerdict indexesVerdict indexVerdict titleCount placeOf resolveOf index.titlesOf index.tailBytes index.entryBytes index.entryOfRecord index.headBytes index.specialBytes index.fileOf countOf next place bodyOf verdictOf commandsOf cmdsAt objectBytes object headBytes sizeOf fileOf branchOf setCode operandOf commandOf written applied setOf execSet acted execOf stepOf runFrom runOf buffersVerdict budgetsVerdict entryVerdict objectsLive titlesLive liveVerdict sessionVerdict objects.returned objects.turnOf objects.driveOf objects.startOf objects.verdictFor objects.answerOf titleValue entered returned turnOf titlesOf startOf goOnOf verdictFor answerOf leadsNowhere commandOffends firstCommand firstObject checkOf lengthsFit driverCall runnerCall checkCall
 opened = tt
 
 -- object 0 sets r5 to 16 and plays 5, and 1 calls title 7

@@ -4,7 +4,7 @@ use mathlib.Core.List.{List, _++_}
 use Prim.Native.Nat.{ℕ}
 use Rattle.common.specs.Rules.{be2, be4, bytes2, bytes4, headerOf}
 use Rattle.index_bdmv.specs.Rules.{appInfoVerdict, entryVerdict, entriesVerdict, startOf, statedVerdict, titlesVerdict, indexesVerdict, verdictOf as indexVerdict, titleCount, placeOf, resolveOf}
-use Rattle.movie_object.specs.Rules.{countOf, next, place, bodyOf, verdictOf, commandCount, commandsOf}
+use Rattle.movie_object.specs.Rules.{countOf, next, place, bodyOf, verdictOf, commandsOf}
 use Rattle.nav_command.specs.Rules.{branchOf, operandOf, commandOf}
 use Rattle.disc_check.specs.declared.DiscCheck.the-variants.{Passed, Offends}
 use Rattle.disc_check.specs.Rules.{registerReach, leadsNowhere, commandOffends, firstCommand, firstObject, checkOf}
@@ -13,7 +13,7 @@ use Rattle.drive_examples.specs.Discs.{jumpTitle, hdmv, index}
 
 -- what the examples compute with
 opened : Unit {0}
-unfolding be2 be4 bytes2 bytes4 headerOf appInfoVerdict entryVerdict entriesVerdict startOf statedVerdict titlesVerdict indexesVerdict indexVerdict titleCount placeOf resolveOf countOf next place bodyOf verdictOf commandCount commandsOf branchOf operandOf commandOf registerReach leadsNowhere commandOffends firstCommand firstObject checkOf
+unfolding be2 be4 bytes2 bytes4 headerOf appInfoVerdict entryVerdict entriesVerdict startOf statedVerdict titlesVerdict indexesVerdict indexVerdict titleCount placeOf resolveOf countOf next place bodyOf verdictOf commandsOf branchOf operandOf commandOf registerReach leadsNowhere commandOffends firstCommand firstObject checkOf
 opened = tt
 
 -- object 0 jumps to title 1, which is object 0; object 1 jumps to itself, so that a given last command is never reached

@@ -7,7 +7,7 @@ use lib.ListN.{set}
 use Rattle.common.specs.Rules.{be2, be4, bytes2, bytes4, headerOf}
 use Rattle.error.specs.declared.Refusal.the-variants.{BadSession}
 use Rattle.index_bdmv.specs.Rules.{appInfoVerdict, entryVerdict as indexEntry, entriesVerdict, startOf as indexStart, statedVerdict, titlesVerdict, indexesVerdict, verdictOf as indexVerdict, titleCount, placeOf, resolveOf}
-use Rattle.movie_object.specs.Rules.{countOf, next, place, bodyOf, verdictOf, commandCount, commandsOf}
+use Rattle.movie_object.specs.Rules.{countOf, next, place, bodyOf, verdictOf, commandsOf}
 use Rattle.nav_command.specs.Rules.{branchOf, setOf as setCode, operandOf, commandOf}
 use Rattle.registers.specs.Rules.{Banks, banks, written, applied, setOf}
 use Rattle.vm.specs.Rules.{execSet, acted, execOf, stepOf, runFrom, runOf}
@@ -27,7 +27,7 @@ use Rattle.drive_examples.specs.Discs.{move, jumpTitle, callTitle, play,
 
 -- what the examples compute with
 opened : Unit {0}
-unfolding be2 be4 bytes2 bytes4 headerOf appInfoVerdict indexEntry entriesVerdict indexStart statedVerdict titlesVerdict indexesVerdict indexVerdict titleCount placeOf resolveOf countOf next place bodyOf verdictOf commandCount commandsOf branchOf setCode operandOf commandOf written applied setOf execSet acted execOf stepOf runFrom runOf buffersVerdict budgetsVerdict entryVerdict objectsLive titlesLive liveVerdict sessionVerdict objectReturned objectTurn driveOf titleValue entered jumped called returned turnOf titlesOf badNumber startOf goOnOf verdictFor answerOf
+unfolding be2 be4 bytes2 bytes4 headerOf appInfoVerdict indexEntry entriesVerdict indexStart statedVerdict titlesVerdict indexesVerdict indexVerdict titleCount placeOf resolveOf countOf next place bodyOf verdictOf commandsOf branchOf setCode operandOf commandOf written applied setOf execSet acted execOf stepOf runFrom runOf buffersVerdict budgetsVerdict entryVerdict objectsLive titlesLive liveVerdict sessionVerdict objectReturned objectTurn driveOf titleValue entered jumped called returned turnOf titlesOf badNumber startOf goOnOf verdictFor answerOf
 opened = tt
 
 -- object 0 jumps to title 65,537, 1 sets r5 to 16 and plays 5, and 2 calls title 2

@@ -4,7 +4,7 @@ use mathlib.Core.List.{List, [], _∷_, _++_}
 use Prim.Native.Nat.{ℕ, _*_}
 use lib.ListN.{set, take, drop, replicate}
 use Rattle.laws.specs.Firsts.{all, blocks}
-use Rattle.common.specs.Rules.{be2, be4, bytes2, bytes4, headerOf}
+use Rattle.common.specs.Rules.{be2, be4, bytes2, bytes4, headerOf, roomVerdict}
 use Rattle.error.specs.declared.Refusal.the-variants.{BadBody, BadEntry, NotEncodable, NotAnEntry}
 use Rattle.error.specs.declared.Verdict.the-variants.{Fine, Refused}
 use Rattle.utf8.specs.Rules.{lead4, lead3, leadOf, stepOf, scanOf, isUtf8}
@@ -14,12 +14,12 @@ use Rattle.index_bdmv.specs.declared.Parsed.the-variants as parsed
 use Rattle.index_bdmv.specs.declared.IndexEntry.the-variants as entry
 use Rattle.index_bdmv.specs.declared.Lead.the-variants as lead
 use Rattle.index_bdmv.specs.declared.Resolved.the-variants as resolved
-use Rattle.index_bdmv.specs.Rules.{appInfoVerdict, appInfoOf, entryVerdict, entriesVerdict, startOf, statedVerdict, titlesVerdict, indexesVerdict, verdictOf, titleCount, placeOf, resolveOf, objectAt, indexOf, parseOf, entryOf, resolveMovieObject, nameOf}
+use Rattle.index_bdmv.specs.Rules.{appInfoVerdict, appInfoOf, entryVerdict, entriesVerdict, startOf, statedVerdict, titlesVerdict, indexesVerdict, verdictOf, titleCount, placeOf, resolveOf, objectAt, indexOf, parseOf, entryFrom, entryOf, resolveMovieObject, nameFrom, nameOf}
 use Rattle.index_bdmv_write.specs.Rules.{Entries, entries, nameGiven, titlesOf, tailBytes, entryBytes, entryOfRecord, headBytes, specialBytes, sizeOf, fileOf, kindFits, lengthsFit, encodable, writeVerdict, entryRead}
 
 -- what the examples compute with
 opened : Unit {0}
-unfolding all blocks be2 be4 bytes2 bytes4 headerOf lead4 lead3 leadOf stepOf scanOf isUtf8 appInfoVerdict appInfoOf entryVerdict entriesVerdict startOf statedVerdict titlesVerdict indexesVerdict verdictOf titleCount placeOf resolveOf objectAt indexOf parseOf entryOf resolveMovieObject nameOf nameGiven titlesOf tailBytes entryBytes entryOfRecord headBytes specialBytes sizeOf fileOf kindFits lengthsFit encodable writeVerdict entryRead
+unfolding all blocks be2 be4 bytes2 bytes4 headerOf roomVerdict lead4 lead3 leadOf stepOf scanOf isUtf8 appInfoVerdict appInfoOf entryVerdict entriesVerdict startOf statedVerdict titlesVerdict indexesVerdict verdictOf titleCount placeOf resolveOf objectAt indexOf parseOf entryOf resolveMovieObject nameOf nameGiven titlesOf tailBytes entryBytes entryOfRecord headBytes specialBytes sizeOf fileOf kindFits lengthsFit encodable writeVerdict entryRead
 opened = tt
 
 -- an entry of each type: a playback type, and an object or the name 00000
@@ -87,6 +87,21 @@ entry-65538 = refl
 pub name-of-the-top-menu : nameOf index 65537 ≡ replicate 5 48
 unfolding opened
 name-of-the-top-menu = refl
+
+-- Of an accepted file: title 1 leads to its object, and a BD-J entry to none.
+pub leads : resolveOf index 1 ∷ resolveOf index 65537 ∷ [] ≡ lead.Object 3 ∷ lead.Nothing ∷ []
+unfolding opened
+leads = refl
+
+-- The top menu is a BD-J entry, and there is no title 2.
+pub entries-by-number : entryFrom index (placeOf index 65537) ∷ entryFrom index (placeOf index 2) ∷ [] ≡ entry.Object (BdJ 1) ∷ entry.Nothing ∷ []
+unfolding opened
+entries-by-number = refl
+
+-- An HDMV entry has no name.
+pub names-by-number : nameFrom index (placeOf index 65537) ∷ nameFrom index (placeOf index 1) ∷ [] ≡ replicate 5 48 ∷ [] ∷ []
+unfolding opened
+names-by-number = refl
 
 -- Writing gives those bytes.
 pub written-file : fileOf 0x30323030 app given ≡ index

@@ -8,16 +8,16 @@ use native.Mathlib.Omega.{arith}
 use lib.Dec.{eqb, leb, ltb}
 use lib.ListN.{length, take, drop, set, replicate, length-append, length-drop}
 use lib.Seq.{length-take-le}
-use borrow.Author.Tests.{lt-ltb, le-ltb, ltb-true, ltb-false, le-leb, leb-true, eq-eqb, ne-eqb, eqb-true, not-false}
+use borrow.Author.Tests.{lt-ltb, ltb-true, le-leb, leb-true, eq-eqb, ne-eqb, eqb-true, not-false}
 use Rattle.laws.specs.Cases.{both, either-way}
 use Rattle.laws.specs.Firsts.{all, all-tells, blocks, blocks-suc}
 use Rattle.laws.specs.Over.{over, over-next, store4}
 use Rattle.common.specs.Rules.{bytes2, bytes4, limit}
-use Rattle.common.specs.Laws.{length-bytes2, length-bytes4}
+use Rattle.common.specs.Laws.{length-bytes2, length-bytes4, room-tells, room-made}
 use Rattle.utf8.specs.Rules.{isUtf8}
 use Rattle.error.specs.Laws.{both-fine, not-refused}
 use Rattle.error.specs.Rules.{refusedIf}
-use Rattle.error.specs.declared.Refusal.the-variants.{NoRoom, NotEncodable}
+use Rattle.error.specs.declared.Refusal.the-variants.{NotEncodable}
 use Rattle.error.specs.declared.Verdict.the-variants.{Fine}
 use Rattle.index_bdmv.specs.declared.AppInfoBdmv.{AppInfoBdmv}
 use Rattle.index_bdmv_write.specs.Rules.{Entries, kindOf, playbackOf, objectOf, nameGiven, titlesOf, tailBytes, entryBytes, entryOfRecord, appBytes, headBytes, specialBytes, titleBytes, sizeOf, fileOf, appFits, kindFits, entryFits, lengthsFit, encodable, writeVerdict}
@@ -183,16 +183,16 @@ module _ (app : AppInfoBdmv) (r : Entries) (room : ℕ) where
   unfolding writeVerdict
   accepted e =
       let p1 = both-fine (refusedIf (not (encodable app r)) NotEncodable) _ e in
-      let p2 = both-fine (refusedIf (ltb limit (sizeOf r)) NoRoom) _ (p1 .1) in
+      let p2 = room-tells (sizeOf r) room (p1 .1) in
       record {
         fields = encodable-tells r app (not-false _ (not-refused _ NotEncodable (p1 .0)));
-        short = ltb-false _ _ (not-refused _ NoRoom (p2 .0));
-        fits = ltb-false _ _ (not-refused _ NoRoom (p2 .1));
+        short = p2 .0;
+        fits = p2 .1;
       }
 
   pub accepts : Accepted app r room → writeVerdict app r room ≡ Fine
   unfolding writeVerdict
-  accepts a = simp (encodable-made r app (a .fields), le-ltb _ _ (a .short), le-ltb _ _ (a .fits))
+  accepts a = simp (encodable-made r app (a .fields), room-made (sizeOf r) room (a .short) (a .fits))
 
 -- ---- what the calls leave, one after the other
 

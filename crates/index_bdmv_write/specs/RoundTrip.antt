@@ -1,5 +1,4 @@
--- Writing then reading gives the record back; reading then writing gives the bytes back for the files that the writer could have made.
--- Assumes nothing.
+-- Writing then reading gives the record back, and reading then writing the bytes of a file that could be written. Assumes nothing.
 use mathlib.Core.Path.{_≡_, refl, sym, ap, _∙_}
 use mathlib.Core.Bool.{Bool, true, false, cond}
 use mathlib.Core.List.{List, [], _∷_, _++_, append-assoc, append-nil}

@@ -7,10 +7,10 @@ use lib.Dec.{eqb, leb, ltb}
 use lib.ListN.{length, getD, take, drop, replicate}
 use Rattle.laws.specs.Firsts.{all, blocks}
 use Rattle.laws.specs.Over.{over}
-use Rattle.common.specs.Rules.{be4, bytes2, bytes4, limit, Left, leftAs}
+use Rattle.common.specs.Rules.{be4, bytes2, bytes4, roomVerdict, Left, leftAs}
 use Rattle.utf8.specs.Rules.{isUtf8}
 use Rattle.error.specs.Rules.{firstOf, refusedIf}
-use Rattle.error.specs.declared.Refusal.the-variants.{NoRoom, NotEncodable}
+use Rattle.error.specs.declared.Refusal.the-variants.{NotEncodable}
 use Rattle.error.specs.declared.Verdict.{Verdict}
 use Rattle.error.specs.declared.Verdict.the-variants as verdict
 use Rattle.index_bdmv.specs.declared.AppInfoBdmv.{AppInfoBdmv}
@@ -21,8 +21,7 @@ use Rattle.index_bdmv.specs.declared.IndexEntry.the-variants as entry
 use Rattle.index_bdmv.specs.declared.Parsed.the-variants as parsed
 use Rattle.index_bdmv.specs.Rules.{indx, startOf, titleCount, kindAt, verdictOf, parseOf, entryOf, nameOf}
 
--- A record is a version, an AppInfo, and entries: first playback, top menu, then the titles.
--- For each entry there is a type (1 HDMV, 2 BD-J), a playback type, an object and a name of five bytes, of which its type uses one.
+-- First playback, top menu, titles: of each its type (1 HDMV, 2 BD-J), playback type, and an object and a name, of which one is used.
 pub record Entries : Type 0 where
   pub kinds : List ℕ
   pub playbacks : List ℕ
@@ -116,8 +115,7 @@ encodable app r =
 unfoldable pub writeVerdict : AppInfoBdmv → Entries → ℕ → Verdict
 writeVerdict app r room =
     firstOf (refusedIf (not (encodable app r)) NotEncodable)
-    (firstOf (refusedIf (ltb limit (sizeOf r)) NoRoom)
-    (refusedIf (ltb room (sizeOf r)) NoRoom))
+    (roomVerdict (sizeOf r) room)
 
 -- ---- what the writer leaves
 

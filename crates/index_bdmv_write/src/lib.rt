@@ -1,10 +1,10 @@
 // Writing index.bdmv into a lent buffer (the Rust's `IndexBdmv::encode`).
-use common::LIMIT;
 use common::Written;
 use common::put_bytes;
 use common::put_zeros;
 use common::put16;
 use common::put32;
+use common::room_verdict;
 use error::Refusal;
 use error::Verdict;
 use index_bdmv::AppInfoBdmv;
@@ -62,13 +62,7 @@ fn write_verdict(
 {
     if is_encodable(app, kinds, playbacks, objects, names) {
         let size = 108 + 12 * (kinds.len() - 2);
-        if LIMIT < size {
-            return Verdict::Refused(Refusal::NoRoom);
-        }
-        if room < size {
-            return Verdict::Refused(Refusal::NoRoom);
-        }
-        return Verdict::Fine;
+        return room_verdict(size, room);
     }
     Verdict::Refused(Refusal::NotEncodable)
 }

@@ -5,7 +5,7 @@ use Prim.Native.Nat.{ℕ}
 use lib.ListN.{set, replicate}
 use Rattle.laws.specs.Firsts.{all, blocks}
 use Rattle.laws.specs.Over.{over}
-use Rattle.common.specs.Rules.{be2, be4, bytes2, bytes4, headerOf}
+use Rattle.common.specs.Rules.{be2, be4, bytes2, bytes4, headerOf, roomVerdict}
 use Rattle.text.specs.Rules.{bytes}
 use Rattle.utf8.specs.Rules.{lead4, lead3, leadOf, stepOf, scanOf, isUtf8}
 use Rattle.index_bdmv.specs.Rules.{appInfoVerdict, appInfoOf, entryVerdict, entriesVerdict, startOf, statedVerdict, titlesVerdict, indexesVerdict, verdictOf, titleCount, placeOf, resolveOf, objectAt, indexOf, parseOf, entryOf, resolveMovieObject, nameOf}
@@ -15,7 +15,7 @@ use Rattle.index_calls.specs.Rules.{appOf, indexCall, entryCall, resolve
 
 -- what the examples compute with
 opened : Unit {0}
-unfolding all blocks over be2 be4 bytes2 bytes4 headerOf lead4 lead3 leadOf stepOf scanOf isUtf8 appInfoVerdict appInfoOf entryVerdict entriesVerdict startOf statedVerdict titlesVerdict indexesVerdict verdictOf titleCount placeOf resolveOf objectAt indexOf parseOf entryOf resolveMovieObject nameOf nameGiven titlesOf tailBytes entryBytes entryOfRecord headBytes specialBytes sizeOf fileOf kindFits lengthsFit encodable writeVerdict writeOf indexCall entryCall resolveCall writeIndexCall
+unfolding all blocks over be2 be4 bytes2 bytes4 headerOf roomVerdict lead4 lead3 leadOf stepOf scanOf isUtf8 appInfoVerdict appInfoOf entryVerdict entriesVerdict startOf statedVerdict titlesVerdict indexesVerdict verdictOf titleCount placeOf resolveOf objectAt indexOf parseOf entryOf resolveMovieObject nameOf nameGiven titlesOf tailBytes entryBytes entryOfRecord headBytes specialBytes sizeOf fileOf kindFits lengthsFit encodable writeVerdict writeOf indexCall entryCall resolveCall writeIndexCall
 opened = tt
 
 -- a record: flags 0 and 1, video format 6, frame rate 4; first playback object 0, top menu the name 12345, title 1 object 3

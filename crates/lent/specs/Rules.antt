@@ -1,5 +1,4 @@
--- What the calls for C share: lengths of lent arrays, refusals by number, and what a call hands back beside what it leaves in them.
--- Assumes nothing.
+-- What the calls for C share: lengths of lent arrays, refusals by number, and what a call hands back and leaves. Assumes nothing.
 use mathlib.Core.List.{List}
 use mathlib.Core.Bool.{Bool, cond, _&&_}
 use Prim.Native.Nat.{ℕ}

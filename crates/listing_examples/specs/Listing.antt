@@ -15,13 +15,13 @@ use Rattle.nav_command.specs.Rules.{setOf, operandOf, commandOf}
 use Rattle.nav_names.specs.Rules.{mnemonic}
 use Rattle.nav_list.specs.declared.Listed.the-variants.{At, Refused}
 use Rattle.nav_list.specs.Rules.{immediateText, generalText, lineOf, lineAt, listing, listOf}
-use Rattle.movie_object.specs.Rules.{countOf, next, place, bodyOf, verdictOf, commandCount, commandsOf, headAt}
+use Rattle.movie_object.specs.Rules.{countOf, next, place, bodyOf, verdictOf, commandsOf, headAt}
 use Rattle.movie_object_list.specs.Rules.{countText, headingText, prefixText, objectText, fileText, listObject, listFile}
 use Rattle.movie_object_examples.specs.Objects.{move, one}
 
 -- what the examples compute with
 opened : Unit {0}
-unfolding blocks over be2 be4 bytes2 bytes4 headerOf numeral rightIn setOf operandOf commandOf mnemonic immediateText generalText lineOf lineAt listOf countOf next place bodyOf verdictOf commandCount commandsOf headAt countText headingText prefixText objectText fileText listObject listFile
+unfolding blocks over be2 be4 bytes2 bytes4 headerOf numeral rightIn setOf operandOf commandOf mnemonic immediateText generalText lineOf lineAt listOf countOf next place bodyOf verdictOf commandsOf headAt countText headingText prefixText objectText fileText listObject listFile
 opened = tt
 
 -- document 01's listing of its file
@@ -64,8 +64,7 @@ no-room = refl
 abbrev forty : List ℕ
 forty = bytes "MOBJ0200" ++ replicate 68 0 ++ bytes2 40 ++ replicate 160 0
 
--- A text has at most 57 bytes for each object and 10 for each byte of the file, which is 4,660 here; these are ten lines of
--- 61 bytes and thirty of 62, more than ten for each byte.
+-- At most 57 bytes for each object and 10 for each byte of the file are 4,660 here; these are ten lines of 61 bytes and thirty of 62.
 pub forty-lines : length (fileText forty) ≡ 2470
 unfolding opened
 forty-lines = refl

@@ -1,15 +1,18 @@
 -- Fresh banks, and the player's reads and writes of a bank (document 01, "One command"). Assumes nothing.
 use mathlib.Core.Path.{_≡_, refl}
 use mathlib.Core.Bool.{true, false}
-use mathlib.Core.List.{List, [], _∷_}
+use mathlib.Core.List.{List, [], _∷_, map}
 use Prim.Native.Nat.{ℕ}
 use lib.ListN.{getD, set}
 use Rattle.error.specs.declared.Refusal.the-variants.{BadBuffer, BadBudget}
 use Rattle.error.specs.declared.Verdict.the-variants as verdict
 use Rattle.registers.specs.declared.Read.{Read}
 use Rattle.registers.specs.declared.Read.the-variants.{Value, NoRegister, Refused}
+use Rattle.nav_command.specs.Rules.{operandOf}
+use Rattle.registers.specs.declared.Raw.{Raw}
 use Rattle.registers.specs.Laws.{one-answer}
-use Rattle.registers.specs.Rules.{freshGeneral, freshStatus, refuses, bankOf, readOf, putOf}
+use Rattle.registers.specs.Pieces.{raw, meant}
+use Rattle.registers.specs.Rules.{banks, valueOf, freshGeneral, freshStatus, refuses, bankOf, readOf, putOf}
 
 -- what the examples compute with
 opened : Unit {0}
@@ -30,6 +33,11 @@ bank = set freshStatus 5 7
 a-register : readOf 128 bank 5 ≡ Value 7
 unfolding opened
 a-register = refl
+
+-- An immediate is its word, a status register holds its value, and an absent operand is 0.
+values : map (λ (a : Raw). valueOf (meant a) (banks freshGeneral bank)) (raw true true 5 ∷ raw true false 0x8000_0005 ∷ raw false true 5 ∷ []) ≡ 5 ∷ 7 ∷ 0 ∷ []
+unfolding opened operandOf
+values = refl
 
 -- General registers are 4,096.
 last-general-read : readOf 4096 (set freshGeneral 4095 7) 4095 ≡ Value 7

@@ -1,24 +1,27 @@
 -- Swaps, an unknown compare, and runs of two commands under a budget (document 01, "One command"). Assumes nothing.
 use mathlib.Core.Path.{_≡_, refl}
+use mathlib.Core.Bool.{false}
 use mathlib.Core.List.{List, _∷_, _++_}
 use Prim.Native.Nat.{ℕ}
 use lib.ListN.{set}
 use Rattle.error.specs.declared.Refusal.the-variants.{BadBuffer, BadBudget}
 use Rattle.register_model.specs.Rules.{classOf, writable}
+use Rattle.common.specs.Rules.{be4}
 use Rattle.nav_command.specs.Rules.{branchOf, operandOf, commandOf}
 use Rattle.nav_command.specs.Rules as nav
 use Rattle.registers.specs.Rules.{writtenStatus, written, applied, setOf, bankOf, freshGeneral, freshStatus}
 use Rattle.vm.specs.declared.Answer.{Answer}
 use Rattle.vm.specs.declared.Answer.the-variants.{Done, Refused}
+use Rattle.vm.specs.declared.End.the-variants as End
 use Rattle.vm.specs.declared.Step.the-variants.{Continue, Skipped, Halted}
 use Rattle.vm.specs.Laws.{one-answer}
 use Rattle.vm.specs.Rules as vm
-use Rattle.vm.specs.Rules.{Banks, banks, After, after, stepped, compareOf, execSet, acted, execOf, stepOf, runFrom, runOf, commandsOf, budgetOf, answered, stepAnswer, runAnswer}
+use Rattle.vm.specs.Rules.{Banks, banks, After, after, stepped, compareOf, execSet, acted, execOf, fetched, stepOf, ran, runFrom, runOf, commandsOf, budgetOf, answered, stepAnswer, runAnswer}
 use Rattle.marked_examples.specs.Cases.{command, nop}
 
 -- what the examples compute with
 opened : Unit {0}
-unfolding classOf writable branchOf operandOf commandOf nav.compareOf nav.setOf writtenStatus written applied setOf bankOf compareOf execSet acted execOf stepOf runFrom runOf commandsOf budgetOf answered stepAnswer runAnswer
+unfolding classOf writable branchOf operandOf be4 commandOf nav.compareOf nav.setOf writtenStatus written applied setOf bankOf compareOf execSet acted execOf stepOf runFrom runOf commandsOf budgetOf answered stepAnswer runAnswer
 opened = tt
 
 -- A new machine stands at its first command, and its budget is the upper end of steps.
@@ -51,6 +54,10 @@ unknown-compare = refl
 abbrev moves : List ℕ
 moves = command 0x5040_0001 1 16 ++ command 0x5040_0001 2 9
 
+-- The second of them is the twelve bytes at 12.
+second-command : fetched moves 12 ≡ command 0x5040_0001 2 9
+second-command = refl
+
 -- Both are obeyed, and a halt past the end is told beside the pc.
 both-obeyed : runAnswer moves 0 3 fresh ≡ after (pair 16 9) freshStatus (Done (stepped Halted 2))
 unfolding opened
@@ -60,6 +67,11 @@ both-obeyed = refl
 one-step : runAnswer moves 0 1 fresh ≡ after (pair 16 0) freshStatus (Done (stepped Halted 1))
 unfolding opened
 one-step = refl
+
+-- So much a run of an accepted file tells: that its steps were spent, and how many they were.
+spent-run : runOf moves 1 0 0 fresh ≡ after (pair 16 0) freshStatus (ran End.Spent 1 1 false)
+unfolding opened
+spent-run = refl
 
 -- Commands not in whole twelves are refused, then a budget over 1,000,000, and nothing is altered.
 cut-commands : runAnswer (0 ∷ moves) 0 1_000_001 fresh ≡ after freshGeneral freshStatus (Refused BadBuffer)

@@ -17,6 +17,7 @@ use Rattle.movie_object.specs.declared.MovieObject.{MovieObject}
 use Rattle.movie_object.specs.declared.Object.the-variants.{Found}
 use Rattle.movie_object.specs.Rules.{place, countOf, verdictOf, headOf, foundAs, objectOf}
 use Rattle.movie_object.specs.Laws.{good, object-in}
+use Rattle.common.specs.Rules.{be4}
 use Rattle.nav_command.specs.declared.DecodedCommand.{DecodedCommand}
 use Rattle.nav_command.specs.Rules.{commandOf}
 use Rattle.nav_list.specs.declared.Listed.{Listed}
@@ -50,7 +51,7 @@ cleared-all out i n was h e = sym (take-all i out h) ∙ was ∙ ap (λ (k : ℕ
 
 -- decoding looks at the first twelve bytes alone
 same-command : (cs : List ℕ) → commandOf (fetched cs 0) ≡ commandOf cs
-unfolding commandOf
+unfolding commandOf be4
 same-command cs = refl
 
 module _ (command bytes : List ℕ) (d : DecodedCommand) (long : length command ≡ 12) (fetch : bytes ≡ fetched command 0) (decode : d ≡ commandOf bytes) where

@@ -9,8 +9,7 @@ use Rattle.register_model.specs.Rules.{classTable}
 use Rattle.movie_object.specs.Rules.{verdictOf}
 use Rattle.movie_object.specs.Pieces.{Placed}
 
--- What a drive rests on: the class table, a file that is read with a table of its places, banks of their lengths, and frames
--- that can be counted.
+-- What a drive rests on: the class table, an accepted file, the table of its places, banks of their lengths, countable frames.
 pub record Ready (classes file places gpr psr frames : List ℕ) : Type 0 where
   pub classed : classes ≡ classTable
   pub fine : verdictOf file ≡ verdict.Fine

@@ -1,5 +1,4 @@
--- Runs of objects: what a turn does, a drive of turns under an object budget, and the runner's calls (document 01,
--- "Objects and titles"). Assumes nothing.
+-- Runs of objects: a turn, a drive of turns, and the runner's calls (document 01, "Objects and titles"). Assumes nothing.
 use mathlib.Core.Bool.{Bool, true, cond}
 use mathlib.Core.List.{List}
 use Prim.Native.Nat.{ℕ, zero, suc, _+_, _-_}
@@ -115,8 +114,7 @@ unfoldable pub turnOf : List ℕ → ℕ → ℕ → World Session → World Tur
 turnOf file steps left w =
     acting (w .frames) (countOf file) (w .it) left (commandsRun (commandsOf file (w .it .object)) steps 0 (w .it .pc) (w .regs))
 
--- A drive with so many object transitions left: a turn that stops ends it, and one that goes on is followed by the rest.
--- With none left no turn goes on.
+-- A drive with so many object transitions left: a turn that stops ends it, one that goes on is followed by the rest; none goes on at 0.
 
 abbrev pub ended : RunOutcome → Session → RunEnd
 ended o s = record { outcome = o; session = s }
@@ -132,8 +130,7 @@ driveOf file steps zero w =
 driveOf file steps (suc left) w =
     continued (turnOf file steps (suc left) w .it) (turnOf file steps (suc left) w) (driveOf file steps left)
 
--- The runner's run starts any object: one off the disc is bad object. Starting clears the object frames, free of charge.
--- Its resume goes on from where the session stands.
+-- Run starts any object, free of charge, and clears the object frames; one off the disc is bad object. Resume goes on from the session.
 
 unfoldable pub startOf : List ℕ → Budgets → ℕ → World Session → World RunEnd
 startOf file b o w =

@@ -240,7 +240,7 @@ fn begin(
     let mut t = s;
     match start {
         Start::Object(object) => {
-            if movie_object::object_count(file) <= object {
+            if movie_object::count_of(file) <= object {
                 return RunEnd {
                     outcome: RunOutcome::BadObject(object),
                     session: s,
@@ -292,7 +292,7 @@ fn verdict(
     let Verdict::Fine = objects else {
         return objects;
     };
-    let count = movie_object::object_count(file);
+    let count = movie_object::count_of(file);
     session::session_verdict(frames, titles, count, s, pending)
 }
 

@@ -7,7 +7,7 @@ use Rattle.error.specs.declared.Refusal.the-variants.{BadSession}
 use Rattle.common.specs.Rules.{be2, be4, bytes2, bytes4, headerOf}
 use Rattle.nav_command.specs.Rules.{branchOf, operandOf, commandOf}
 use Rattle.vm.specs.Rules.{banks, acted, execOf, stepOf, runFrom, runOf}
-use Rattle.movie_object.specs.Rules.{countOf, next, place, bodyOf, verdictOf, commandCount, commandsOf}
+use Rattle.movie_object.specs.Rules.{countOf, next, place, bodyOf, verdictOf, commandsOf}
 use Rattle.session.specs.declared.Session.{Session}
 use Rattle.session.specs.Rules.{session, fresh, buffersVerdict, budgetsVerdict, objectsLive, titlesLive, liveVerdict, sessionVerdict}
 use Rattle.mobj_runner.specs.declared.RunAnswer.{RunAnswer}
@@ -20,7 +20,7 @@ use Rattle.mobj_runner_examples.specs.Discs.{general, status, jumpObject
 
 -- what the examples compute with
 opened : Unit {0}
-unfolding be2 be4 bytes2 bytes4 headerOf branchOf operandOf commandOf acted execOf stepOf runFrom runOf countOf next place bodyOf verdictOf commandCount commandsOf buffersVerdict budgetsVerdict objectsLive titlesLive liveVerdict sessionVerdict returned jumped called turnOf driveOf startOf verdictFor answerOf
+unfolding be2 be4 bytes2 bytes4 headerOf branchOf operandOf commandOf acted execOf stepOf runFrom runOf countOf next place bodyOf verdictOf commandsOf buffersVerdict budgetsVerdict objectsLive titlesLive liveVerdict sessionVerdict returned jumped called turnOf driveOf startOf verdictFor answerOf
 opened = tt
 
 -- object 0 calls itself, 1 calls 2, 2 jumps to 3, and 3 has no commands
@@ -47,6 +47,11 @@ call-over-budget = refl
 pub jump-over-budget : run 2 1 0 [] ≡ leaves BudgetExhausted (session 65536 2 1 0 0 false) []
 unfolding opened
 jump-over-budget = refl
+
+-- A drive goes on until a turn stops: object 2 jumps, charged, to object 3, which ends.
+pub driven : driveOf file 1 1 (world (session 65536 2 0 0 0 false) (banks general status) []) ≡ world (ended Finished (session 65536 3 0 0 0 false)) (banks general status) []
+unfolding opened
+driven = refl
 
 -- Object stack full: nothing is pushed, pc stays past the call.
 pub full-stack : run 0 1 2 (7 ∷ 7 ∷ []) ≡ leaves ObjectStackFull (session 65536 0 1 1 0 false) (0 ∷ 1 ∷ [])

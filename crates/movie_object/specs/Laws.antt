@@ -7,7 +7,7 @@ use native.Mathlib.Nat.{add-zero, add-suc, add-sub-of-le}
 use native.Mathlib.Numerals.{add-one}
 use native.Mathlib.Omega.{arith}
 use lib.Dec.{leb, ltb}
-use lib.ListN.{length, getD, set, take, drop, length-drop, length-set}
+use lib.ListN.{length, getD, set, drop, length-drop, length-set}
 use lib.Seq.{length-take-le, getD-set-same, getD-set-other}
 use borrow.Author.Count.{below-more}
 use borrow.Author.Tests.{le-leb, lt-leb, leb-true, leb-false, lt-ltb, le-ltb, ltb-true, ltb-false}
@@ -21,7 +21,7 @@ use Rattle.error.specs.declared.Refusal.{Refusal}
 use Rattle.error.specs.declared.Refusal.the-variants.{BadBody}
 use Rattle.error.specs.declared.Verdict.{Verdict}
 use Rattle.error.specs.declared.Verdict.the-variants.{Fine, Refused}
-use Rattle.movie_object.specs.Rules.{next, place, countOf, mobj, bodyOf, verdictOf, commandCount, commandsOf}
+use Rattle.movie_object.specs.Rules.{next, place, countOf, mobj, bodyOf, verdictOf, partAt, commandsOf}
 use Rattle.movie_object.specs.Pieces.{Placed, Walked}
 
 -- ---- places
@@ -161,21 +161,19 @@ module _ (s : List ℕ) (n : ℕ) where
   pub object-in : verdictOf s ≡ Fine → n < countOf s → place s n + 4 + 12 * be2 s (place s n + 2) ≤ length s
   object-in v h = omega (arith, good s v .last, place-suc s n, place-mono s (n + 1) (countOf s) (omega arith))
 
-  commands-there : n < countOf s → commandsOf s n ≡ take (12 * commandCount s n) (drop (place s n + 4) s)
+  commands-there : n < countOf s → commandsOf s n ≡ partAt s (place s n)
   unfolding commandsOf
   commands-there h = simp (lt-ltb n (countOf s) h)
 
   -- the same, from a place that is known by an equation
-  pub commands-from : (p : ℕ) → n < countOf s → p ≡ place s n → commandsOf s n ≡ take (12 * be2 s (p + 2)) (drop (p + 4) s)
-  unfolding commandCount
+  pub commands-from : (p : ℕ) → n < countOf s → p ≡ place s n → commandsOf s n ≡ partAt s p
   commands-from p h e = rw e (commands-there h)
 
   pub commands-missing : countOf s ≤ n → commandsOf s n ≡ []
   unfolding commandsOf
   commands-missing h = simp (le-ltb n (countOf s) h)
 
-  commands-length : verdictOf s ≡ Fine → n < countOf s → length (commandsOf s n) ≡ 12 * commandCount s n
-  unfolding commandCount
+  commands-length : verdictOf s ≡ Fine → n < countOf s → length (commandsOf s n) ≡ 12 * be2 s (place s n + 2)
   commands-length v h =
       ap length (commands-there h)
       ∙ length-take-le (12 * be2 s (place s n + 2)) (drop (place s n + 4) s) (omega (arith, object-in v h, length-drop (place s n + 4) s))
@@ -187,13 +185,12 @@ module _ (s : List ℕ) (n : ℕ) where
     pub fits : 12 * count ≤ limit
 
   commands-whole : verdictOf s ≡ Fine → Whole
-  unfolding commandCount
   commands-whole v = go (ltb n (countOf s)) refl
     where
       go : (b : Bool) → ltb n (countOf s) ≡ b → Whole
       go true e =
           let h : n < countOf s = ltb-true n (countOf s) e in
-          record { count = commandCount s n; twelves = commands-length v h; fits = omega (arith, object-in v h, good s v .head .short) }
+          record { count = be2 s (place s n + 2); twelves = commands-length v h; fits = omega (arith, object-in v h, good s v .head .short) }
       go false e = record { count = 0; twelves = ap length (commands-missing (ltb-false n (countOf s) e)); fits = omega arith }
 
   pub commands-mod : verdictOf s ≡ Fine → length (commandsOf s n) % 12 ≡ 0

@@ -43,12 +43,13 @@ bodyOf s =
 unfoldable pub verdictOf : List ℕ → Verdict
 verdictOf s = firstOf (headerOf mobj s) (bodyOf s)
 
--- How many commands object n has, and its commands: a part of the file, and nothing where there is no such object.
-unfoldable pub commandCount : List ℕ → ℕ → ℕ
-commandCount s n = be2 s (place s n + 2)
+-- The commands of the object whose head stands at a place: a part of the file.
+abbrev pub partAt : List ℕ → ℕ → List ℕ
+partAt s at = take (12 * be2 s (at + 2)) (drop (at + 4) s)
 
+-- The commands of object n, and nothing where there is no such object.
 unfoldable pub commandsOf : List ℕ → ℕ → List ℕ
-commandsOf s n = cond (ltb n (countOf s)) (take (12 * commandCount s n) (drop (place s n + 4) s)) []
+commandsOf s n = cond (ltb n (countOf s)) (partAt s (place s n)) []
 
 -- ---- what the public calls answer
 

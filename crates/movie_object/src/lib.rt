@@ -11,10 +11,10 @@ use error::Refusal;
 use error::Verdict;
 ghost use mathlib.Core.Path.{_≡_};
 ghost use Prim.Native.Nat.{_+_, _*_, _≤_, _<_};
-ghost use lib.ListN.{length, set, take, drop};
+ghost use lib.ListN.{length, set};
 ghost use Rattle.common.specs.Rules.{be2, seekOf};
 ghost use Rattle.error.specs.declared.Verdict.the-variants.{Fine};
-ghost use Rattle.movie_object.specs.Rules.{countOf, next, place, verdictOf, commandsOf, parseOf, headAt, foundAs, onDisc, headOf, objectOf, partOf};
+ghost use Rattle.movie_object.specs.Rules.{countOf, next, place, verdictOf, partAt, commandsOf, parseOf, headAt, foundAs, onDisc, headOf, objectOf, partOf};
 ghost use Rattle.movie_object.specs.Pieces.{Placed, Walked};
 ghost use Rattle.movie_object.specs.Laws.{countRead, Heads, Walking};
 
@@ -229,7 +229,7 @@ pub fn commands_at<'a>(file: &'a [u8], places: &[u32], n: u32) -> &'a [u8]
 // The commands of the object whose head stands at a place.
 pub fn part_at(file: &[u8], at: usize) -> &[u8]
     requires { ⌜ at + 4 + 12 * be2 (now file) (at + 2) ≤ length (now file) ⌝ }
-    ensures { λ r. ⌜ now r ≡ take (12 * be2 (now (file .entry)) (at + 2)) (drop (at + 4) (now (file .entry))) ⌝ }
+    ensures { λ r. ⌜ now r ≡ partAt (now (file .entry)) at ⌝ }
 {
     let start = at + 4;
     let len = 12 * (be16(file, at + 2) as usize);

@@ -6,19 +6,19 @@ use native.Mathlib.Omega.{arith}
 use lib.ListN.{getD, set, take, replicate}
 use Rattle.laws.specs.Firsts.{sum, all, allBelow, blocks}
 use Rattle.laws.specs.Over.{over}
-use Rattle.common.specs.Rules.{be2, be4, bytes2, bytes4, headerOf, left}
+use Rattle.common.specs.Rules.{be2, be4, bytes2, bytes4, headerOf, roomVerdict, left}
 use Rattle.error.specs.declared.Refusal.the-variants.{BadHeader, BadBody, NoRoom, NotEncodable, NotAnEntry}
 use Rattle.error.specs.declared.Verdict.the-variants.{Fine, Refused}
 use Rattle.movie_object.specs.declared.Object.the-variants as object
 use Rattle.movie_object.specs.declared.Parsed.the-variants as parsed
-use Rattle.movie_object.specs.Rules.{countOf, next, place, bodyOf, verdictOf, commandCount, commandsOf, parseOf, headAt, objectOf, partOf}
+use Rattle.movie_object.specs.Rules.{countOf, next, place, bodyOf, verdictOf, partAt, commandsOf, parseOf, headAt, objectOf, partOf}
 use Rattle.movie_object.specs.Pieces.{Walked}
 use Rattle.common.specs.declared.Written.the-variants as written
 use Rattle.movie_object_write.specs.Rules.{cmdsAt, objectBytes, object as objectWritten, headBytes, sizeOf, fileOf, encodable, writeVerdict, writeOf, objectRead}
 
 -- what the examples compute with
 opened : Unit {0}
-unfolding sum all allBelow blocks over be2 be4 bytes2 bytes4 headerOf countOf next place bodyOf verdictOf commandCount commandsOf parseOf headAt objectOf partOf cmdsAt objectBytes objectWritten headBytes sizeOf fileOf encodable writeVerdict writeOf
+unfolding sum all allBelow blocks over be2 be4 bytes2 bytes4 headerOf roomVerdict countOf next place bodyOf verdictOf commandsOf parseOf headAt objectOf partOf cmdsAt objectBytes objectWritten headBytes sizeOf fileOf encodable writeVerdict writeOf
 opened = tt
 
 -- the command `Move r5, 0x10`, and the file of document 01 that has it alone: MOBJ, 0200, and 50 for the length
@@ -90,6 +90,25 @@ pair = bytes4 0x4D4F424A ++ replicate 72 0 ++ bytes2 2 ++ bytes4 1 ++ move ++ by
 
 abbrev places : List ℕ
 places = 78 ∷ 94 ∷ []
+
+-- The next object follows the one before it.
+pub places-of-objects : place pair 0 ∷ place pair 1 ∷ [] ≡ 78 ∷ 94 ∷ []
+unfolding opened
+places-of-objects = refl
+
+-- By its place: an object's head, and its commands.
+pub head-at-78 : headAt (set one 78 0xA0) 78 ≡ record { «resume_intention_flag» = 1; «menu_call_mask» = 0; «title_search_mask» = 1; commands = 1 }
+unfolding opened
+head-at-78 = refl
+
+pub part-at-78 : partAt pair 78 ≡ take 12 move
+unfolding opened
+part-at-78 = refl
+
+-- By its number: the second has none, and there is no third.
+pub commands-by-number : commandsOf pair 0 ∷ commandsOf pair 1 ∷ commandsOf pair 2 ∷ [] ≡ move ∷ [] ∷ [] ∷ []
+unfolding opened
+commands-by-number = refl
 
 -- A walk of the heads accepts the file and finds each object.
 placed : (k : ℕ) → k < countOf pair → getD places k 0 ≡ place pair k

@@ -6,7 +6,7 @@ use Prim.Native.Nat.{ℕ, zero, suc, _+_, _*_, _-_, _≤_, _<_}
 use native.Mathlib.Nat.{zero-add}
 use native.Mathlib.Omega.{arith}
 use lib.Dec.{eqb, leb}
-use lib.ListN.{length, getD, take, drop, length-append, length-drop}
+use lib.ListN.{length, getD, drop, length-append, length-drop}
 use lib.Seq.{length-sets, length-take-le}
 use borrow.Author.Tests.{le-leb, lt-leb, leb-true, leb-false}
 use Rattle.laws.specs.Cases.{either-way, by-test}
@@ -17,7 +17,7 @@ use Rattle.text.specs.Rules.{bytes, numeral, blanks, rightIn, Wrote}
 use Rattle.text.specs.Laws.{few-digits, fitted, then}
 use Rattle.movie_object.specs.declared.MovieObject.{MovieObject}
 use Rattle.error.specs.declared.Verdict.the-variants.{Fine}
-use Rattle.movie_object.specs.Rules.{place, countOf, verdictOf, commandsOf, headAt, headOf}
+use Rattle.movie_object.specs.Rules.{place, countOf, verdictOf, partAt, commandsOf, headAt, headOf}
 use Rattle.movie_object.specs.Laws.{object-in, commands-from}
 use Rattle.nav_list.specs.Rules.{lineAt}
 use Rattle.movie_object_list.specs.Rules.{countText, headingText, prefixText, lineText, objectText, textAt, blockText}
@@ -128,11 +128,11 @@ left-test at t room h =
 
 -- ---- the object of a file
 
-pub part-length : (s : List ℕ) (head : ℕ) → head + 4 + 12 * be2 s (head + 2) ≤ length s → length (take (12 * be2 s (head + 2)) (drop (head + 4) s)) ≡ 12 * be2 s (head + 2)
+pub part-length : (s : List ℕ) (head : ℕ) → head + 4 + 12 * be2 s (head + 2) ≤ length s → length (partAt s head) ≡ 12 * be2 s (head + 2)
 part-length s head h = length-take-le (12 * be2 s (head + 2)) (drop (head + 4) s) (omega (arith, length-drop (head + 4) s))
 
 -- the commands that a head counts are there
-pub lines-there : (s : List ℕ) (head : ℕ) {part : List ℕ} {o : MovieObject} → o ≡ headAt s head → part ≡ take (12 * be2 s (head + 2)) (drop (head + 4) s) → head + 4 + 12 * be2 s (head + 2) ≤ length s
+pub lines-there : (s : List ℕ) (head : ℕ) {part : List ℕ} {o : MovieObject} → o ≡ headAt s head → part ≡ partAt s head → head + 4 + 12 * be2 s (head + 2) ≤ length s
     → 12 * o .commands ≤ length part
 unfolding headAt
 lines-there s head {part} {o} x y h = omega (arith, ap (λ (m : MovieObject). m .commands) x, ap length y, part-length s head h)

@@ -3,7 +3,6 @@ use mathlib.Core.Bool.{cond}
 use mathlib.Core.List.{List, [], _∷_, _++_}
 use Prim.Native.Nat.{ℕ, _+_, _*_}
 use lib.Dec.{eqb}
-use lib.ListN.{take, drop}
 use Rattle.laws.specs.Firsts.{blocks}
 use Rattle.common.specs.Rules.{be2}
 use Rattle.text.specs.Rules.{bytes, numeral, rightIn}
@@ -11,7 +10,7 @@ use Rattle.error.specs.Rules.{firstOf}
 use Rattle.error.specs.declared.Verdict.{Verdict}
 use Rattle.error.specs.declared.Verdict.the-variants as verdict
 use Rattle.movie_object.specs.declared.MovieObject.{MovieObject}
-use Rattle.movie_object.specs.Rules.{verdictOf, countOf, headAt, headOf, commandsOf, onDisc}
+use Rattle.movie_object.specs.Rules.{verdictOf, countOf, partAt, headAt, headOf, commandsOf, onDisc}
 use Rattle.nav_list.specs.declared.Listed.the-variants.{Refused}
 use Rattle.nav_list.specs.Rules.{lineAt, Listing, listing, listOf}
 
@@ -45,7 +44,7 @@ objectText n o commands = headingText n o ++ blocks (lineText commands) (o .comm
 
 -- The text of the object whose head stands at a place.
 abbrev pub textAt : List ℕ → ℕ → ℕ → List ℕ
-textAt s head n = objectText n (headAt s head) (take (12 * be2 s (head + 2)) (drop (head + 4) s))
+textAt s head n = objectText n (headAt s head) (partAt s head)
 
 -- The whole file: the text of each object, and a line end.
 abbrev pub blockText : List ℕ → ℕ → List ℕ

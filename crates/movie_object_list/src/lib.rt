@@ -40,15 +40,15 @@ fn list_one(file: &[u8], n: u32, out: &mut [u8], at: usize) -> Listed
     ensures { λ r. ⌜ listing r (now (out .exit))
         ≡ listedAs (onDisc (now (file .entry)) n) (objectText n (headOf (now (file .entry)) n) (commandsOf (now (file .entry)) n)) (now (out .entry)) at ⌝ }
 {
-    if n < movie_object::object_count(file) {
+    if n < movie_object::count_of(file) {
         let head = movie_object::place_of(file, n);
         return list_at(file, head, n as u16, out, at);
     }
     Listed::Refused(Refusal::NotAnEntry)
 }
 
-// The same of the object whose head stands at a place, for who has a table of places.
-pub fn list_at(file: &[u8], head: usize, n: u16, out: &mut [u8], at: usize) -> Listed
+// The same of the object whose head stands at a place.
+fn list_at(file: &[u8], head: usize, n: u16, out: &mut [u8], at: usize) -> Listed
     requires { ⌜ head + 4 + 12 * be2 (now file) (head + 2) ≤ length (now file) ⌝ }
     ensures { λ r. ⌜ listing r (now (out .exit)) ≡ listOf (now (out .entry)) at (textAt (now (file .entry)) head n) ⌝ }
 {
@@ -86,7 +86,7 @@ fn put_objects(classes: &[u8], file: &[u8], out: &mut [u8], at: usize) -> usize
     requires { ⌜ (now classes ≡ classTable) × (verdictOf (now file) ≡ Fine) ⌝ }
     ensures { λ r. ⌜ Wrote (now (out .entry)) at (fileText (now (file .entry))) (now (out .exit)) r ⌝ }
 {
-    let count = movie_object::object_count(file);
+    let count = movie_object::count_of(file);
     let mut p = at;
     let mut head: usize = 78;
     let mut n: u32 = 0;
@@ -192,7 +192,7 @@ fn file_fits(classes: &[u8], file: &[u8], room: usize, at: usize) -> bool
         return false;
     }
     let left = room - at;
-    if 57 * (movie_object::object_count(file) as usize) + 10 * file.len() <= left {
+    if 57 * (movie_object::count_of(file) as usize) + 10 * file.len() <= left {
         return true;
     }
     file_length(classes, file) <= left
@@ -203,7 +203,7 @@ fn file_length(classes: &[u8], file: &[u8]) -> usize
     requires { ⌜ (now classes ≡ classTable) × (verdictOf (now file) ≡ Fine) ⌝ }
     ensures { λ r. ⌜ r ≡ length (fileText (now (file .entry))) ⌝ }
 {
-    let count = movie_object::object_count(file);
+    let count = movie_object::count_of(file);
     let mut sum: usize = 0;
     let mut head: usize = 78;
     let mut n: u32 = 0;

@@ -6,17 +6,18 @@ use Prim.Native.Nat.{ℕ, zero, suc, _+_, _*_, _-_, _%_, _≤_, _<_}
 use native.Mathlib.Nat.{add-sub-cancel-left}
 use native.Mathlib.Numerals.{add-one}
 use native.Mathlib.Omega.{arith}
-use lib.Dec.{eqb, leb, ltb}
+use lib.Dec.{eqb, leb}
 use lib.ListN.{length, getD, take, drop, set, replicate, length-append, length-drop}
 use lib.Seq.{length-take-le}
-use borrow.Author.Tests.{le-ltb, ltb-false, le-leb, leb-true, eq-eqb, eqb-true, not-false}
+use borrow.Author.Tests.{le-leb, leb-true, eq-eqb, eqb-true, not-false}
 use Rattle.laws.specs.Cases.{both}
 use Rattle.laws.specs.Firsts.{sum, sum-suc, sum-mono, allBelow, below-tells, blocks, blocks-suc}
 use Rattle.laws.specs.Over.{over, over-next, store2}
 use Rattle.common.specs.Rules.{bytes2, bytes4, limit}
+use Rattle.common.specs.Laws.{room-tells, room-made}
 use Rattle.error.specs.Laws.{both-fine, not-refused}
 use Rattle.error.specs.Rules.{refusedIf}
-use Rattle.error.specs.declared.Refusal.the-variants.{NoRoom, BadBuffer, NotEncodable}
+use Rattle.error.specs.declared.Refusal.the-variants.{BadBuffer, NotEncodable}
 use Rattle.error.specs.declared.Verdict.the-variants.{Fine}
 use Rattle.movie_object_write.specs.Rules.{resumeAt, menuAt, titleAt, flagByte, cmdsAt, objectBytes, object, headBytes, sizeOf, fileOf, encodable, writeVerdict}
 
@@ -108,18 +109,18 @@ module _ (flags counts commands : List ℕ) (room : ℕ) where
   accepted e =
       let p1 = both-fine (refusedIf (not (eqb (length commands % 12) 0)) BadBuffer) _ e in
       let p2 = both-fine (refusedIf (not (encodable flags counts commands)) NotEncodable) _ (p1 .1) in
-      let p3 = both-fine (refusedIf (ltb limit (sizeOf counts)) NoRoom) _ (p2 .1) in
+      let p3 = room-tells (sizeOf counts) room (p2 .1) in
       record {
         fields = encodable-tells flags counts commands (not-false _ (not-refused _ NotEncodable (p2 .0)));
-        short = ltb-false _ _ (not-refused _ NoRoom (p3 .0));
-        fits = ltb-false _ _ (not-refused _ NoRoom (p3 .1));
+        short = p3 .0;
+        fits = p3 .1;
       }
 
   pub accepts : Accepted flags counts commands room → writeVerdict flags counts commands room ≡ Fine
   unfolding writeVerdict
   accepts a =
       let w : length commands % 12 ≡ 0 = omega (arith, a .fields .whole) in
-      simp (eq-eqb _ _ w, encodable-made flags counts commands (a .fields), le-ltb _ _ (a .short), le-ltb _ _ (a .fits))
+      simp (eq-eqb _ _ w, encodable-made flags counts commands (a .fields), room-made (sizeOf counts) room (a .short) (a .fits))
 
 -- ---- what the calls leave, one after the other
 

@@ -1,5 +1,4 @@
--- Writing then reading gives the record back; reading then writing gives the bytes back for the files that the writer could have made.
--- Assumes nothing.
+-- Writing then reading gives the record back, and reading then writing the bytes of a file that could be written. Assumes nothing.
 use mathlib.Core.Path.{_≡_, refl, sym, ap, _∙_, subst}
 use mathlib.Core.List.{List, [], _∷_, _++_, append-assoc, append-nil}
 use Prim.Native.Nat.{ℕ, zero, suc, _+_, _*_, _-_, _/_, _%_, _≤_, _<_}
@@ -17,7 +16,7 @@ use Rattle.error.specs.declared.Verdict.the-variants.{Fine}
 use Rattle.movie_object.specs.declared.MovieObject.{MovieObject}
 use Rattle.movie_object.specs.declared.MovieObjects.{MovieObjects}
 use Rattle.movie_object.specs.declared.Object.the-variants.{Found}
-use Rattle.movie_object.specs.Rules.{mobj, place, countOf, verdictOf, objectsOf, parseOf, headAt, objectOf, partOf}
+use Rattle.movie_object.specs.Rules.{mobj, place, countOf, verdictOf, partAt, objectsOf, parseOf, headAt, objectOf, partOf}
 use Rattle.movie_object.specs.Laws.{Good, good, verdict-good, place-zero, place-suc, place-next, commands-from, object-in}
 use Rattle.movie_object_write.specs.Rules.{resumeAt, menuAt, titleAt, flagByte, cmdsAt, objectBytes, object, headBytes, sizeOf, fileOf, writeVerdict, objectRead, Holds, Made, WritingThenReading, ReadingThenWriting}
 use Rattle.movie_object_write.specs.Laws.{Encodable, flag-bit, count-small, Accepted, accepted, accepts, length-headBytes, length-cmdsAt, length-objects, size-from}
@@ -251,7 +250,7 @@ module _ (s : List ℕ) (version : ℕ) (flags counts commands : List ℕ) (room
       (ap (λ (o : MovieObject). o .«menu_call_mask») (head k p))
       (ap (λ (o : MovieObject). o .«title_search_mask») (head k p))
 
-  part : (k : ℕ) → k < length counts → take (12 * be2 s (place s k + 2)) (drop (place s k + 4) s) ≡ cmdsAt counts commands k
+  part : (k : ℕ) → k < length counts → partAt s (place s k) ≡ cmdsAt counts commands k
   unfolding partOf
   part k p = sym (commands-from s k (place s k) (on k p) refl) ∙ (rw (m .accepted) at (h .parts k p))
 

@@ -3,13 +3,13 @@ use mathlib.Core.Path.{_≡_}
 use mathlib.Core.Bool.{Bool, not, _&&_}
 use mathlib.Core.List.{List, _∷_, _++_}
 use Prim.Native.Nat.{ℕ, _+_, _*_, _-_, _%_, _≤_, _<_}
-use lib.Dec.{eqb, leb, ltb}
+use lib.Dec.{eqb, leb}
 use lib.ListN.{length, getD, take, drop, replicate}
 use Rattle.laws.specs.Firsts.{sum, allBelow, blocks}
 use Rattle.laws.specs.Over.{over}
-use Rattle.common.specs.Rules.{be4, bytes2, bytes4, limit, Left, leftAs}
+use Rattle.common.specs.Rules.{be4, bytes2, bytes4, roomVerdict, Left, leftAs}
 use Rattle.error.specs.Rules.{firstOf, refusedIf}
-use Rattle.error.specs.declared.Refusal.the-variants.{NoRoom, BadBuffer, NotEncodable}
+use Rattle.error.specs.declared.Refusal.the-variants.{BadBuffer, NotEncodable}
 use Rattle.error.specs.declared.Verdict.{Verdict}
 use Rattle.error.specs.declared.Verdict.the-variants as verdict
 use Rattle.movie_object.specs.declared.MovieObject.{MovieObject}
@@ -75,8 +75,7 @@ unfoldable pub writeVerdict : List ℕ → List ℕ → List ℕ → ℕ → Ver
 writeVerdict flags counts commands room =
     firstOf (refusedIf (not (eqb (length commands % 12) 0)) BadBuffer)
     (firstOf (refusedIf (not (encodable flags counts commands)) NotEncodable)
-    (firstOf (refusedIf (ltb limit (sizeOf counts)) NoRoom)
-    (refusedIf (ltb room (sizeOf counts)) NoRoom)))
+    (roomVerdict (sizeOf counts) room))
 
 -- ---- what the writer leaves
 

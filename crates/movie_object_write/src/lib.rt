@@ -1,11 +1,11 @@
 // Writing MovieObject.bdmv into a lent buffer (the Rust's `MovieObjects::encode`).
-use common::LIMIT;
 use common::Written;
 use common::all_below;
 use common::put_bytes;
 use common::put_zeros;
 use common::put16;
 use common::put32;
+use common::room_verdict;
 use error::Refusal;
 use error::Verdict;
 ghost use mathlib.Core.Path.{_≡_};
@@ -49,13 +49,7 @@ fn write_verdict(flags: &[u8], counts: &[u32], commands: &[u8], room: usize) -> 
     }
     if is_encodable(flags, counts, commands) {
         let size = 78 + 4 * counts.len() + commands.len();
-        if LIMIT < size {
-            return Verdict::Refused(Refusal::NoRoom);
-        }
-        if room < size {
-            return Verdict::Refused(Refusal::NoRoom);
-        }
-        return Verdict::Fine;
+        return room_verdict(size, room);
     }
     Verdict::Refused(Refusal::NotEncodable)
 }

@@ -101,18 +101,16 @@ pub struct DecodedCommand {
     pub operand2: Operand,
 }
 
-// Branch options of sub-groups 0, 1 and 2, from 0.
-const GOTOS: [BranchOp; 3] = [BranchOp::Nop, BranchOp::GoTo, BranchOp::Break];
-
-const JUMPS: [BranchOp; 5] = [
+// Branch options of sub-group 0, of 1 from the fourth on, and of 2 from the ninth on, each from 0.
+pub const BRANCHES: [BranchOp; 14] = [
+    BranchOp::Nop,
+    BranchOp::GoTo,
+    BranchOp::Break,
     BranchOp::JumpObject,
     BranchOp::JumpTitle,
     BranchOp::CallObject,
     BranchOp::CallTitle,
     BranchOp::Resume,
-];
-
-const PLAYS: [BranchOp; 6] = [
     BranchOp::PlayPL,
     BranchOp::PlayPLatPlayItem,
     BranchOp::PlayPLatMark,
@@ -179,7 +177,7 @@ fn goto_of(option: u8) -> Operation
 {
     let at = option as usize;
     if at < 3 {
-        let op = GOTOS[at];
+        let op = BRANCHES[at];
         return Operation::Branch(op);
     }
     unknown(0, option)
@@ -190,7 +188,7 @@ fn jump_of(option: u8) -> Operation
 {
     let at = option as usize;
     if at < 5 {
-        let op = JUMPS[at];
+        let op = BRANCHES[3 + at];
         return Operation::Branch(op);
     }
     unknown(1, option)
@@ -201,7 +199,7 @@ fn play_of(option: u8) -> Operation
 {
     let at = option as usize;
     if at < 6 {
-        let op = PLAYS[at];
+        let op = BRANCHES[8 + at];
         return Operation::Branch(op);
     }
     unknown(2, option)

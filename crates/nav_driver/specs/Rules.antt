@@ -1,5 +1,4 @@
--- Drives of titles: what a title turn does, a drive of turns under a title budget, and the driver's calls (document 01,
--- "Objects and titles"). Assumes nothing.
+-- Drives of titles: a turn, a drive of turns, and the driver's calls (document 01, "Objects and titles"). Assumes nothing.
 use mathlib.Core.Bool.{true, false, cond}
 use mathlib.Core.List.{List}
 use Prim.Native.Nat.{ℕ, zero, suc, _+_, _-_, _%_}
@@ -87,8 +86,7 @@ follows (R.BadObject o) = End (D.BadObject o)
 follows R.BudgetExhausted = End D.BudgetExhausted
 follows R.ObjectStackFull = End D.ObjectStackFull
 
--- Starting the object of an entry: entry and register 4, then the object, which clears the object frames. A bad object
--- leaves the frames, the current object and pc.
+-- Starting an entry's object: entry and register 4, then the object, which clears the object frames unless it is a bad one.
 unfoldable pub entered : List ℕ → ℕ → Session → ℕ → ℕ → Seeded
 entered p n s e o =
     seeded
@@ -124,8 +122,7 @@ unfoldable pub called : List ℕ → List ℕ → List ℕ → ℕ → Session �
 called p t x n s to left =
     cond (eqb left 0) (titled (Stop s D.BudgetExhausted) p t) (callLed p t n s (to % 65536) (resolveOf x (to % 65536)))
 
--- When the object side finishes, a title frame is popped, charged, and gives back entry, register 4, object and pc;
--- without one the drive finishes.
+-- When the objects finish, a title frame is popped, charged: entry, register 4, object and pc. Without one the drive finishes.
 
 abbrev pub popped : Session → Session
 popped s = session (s .entry) (s .object) (s .pc) (s .odepth) (s .tdepth - 1) (s .pending)
@@ -173,8 +170,7 @@ objectSide w = world (w .it) (w .regs) (w .frames)
 unfoldable pub turnOf : List ℕ → List ℕ → Budgets → ℕ → Rooms Session → Rooms Turn
 turnOf x file b left w = acting (w .titles) x (countOf file) left (driveOf file (b .steps) (b .objects) (objectSide w))
 
--- A drive with so many title transitions left: a turn that stops ends it, and one that goes on is followed by the rest.
--- With none left no turn goes on.
+-- A drive with so many title transitions left: a turn that stops ends it, one that goes on is followed by the rest; none goes on at 0.
 
 abbrev pub ended : DriveOutcome → Session → DriveEnd
 ended o s = record { outcome = o; session = s }

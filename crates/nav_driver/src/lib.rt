@@ -357,7 +357,7 @@ fn start_entry(
     let mut t = s;
     t.tdepth = 0;
     t.pending = false;
-    let count = movie_object::object_count(file);
+    let count = movie_object::count_of(file);
     match index_bdmv::resolve(index, entry) {
         Lead::Object(object) => match enter(psr, count, t, entry, object as u32) {
             Turn::Go(next) => drive(
@@ -499,7 +499,7 @@ fn verdict(
     let Verdict::Fine = objects else {
         return objects;
     };
-    let count = movie_object::object_count(file);
+    let count = movie_object::count_of(file);
     session::session_verdict(frames, titles, count, s, s.pending)
 }
 

@@ -1,5 +1,4 @@
--- Twelve bytes, decoded and laid out again: the same with the ignored bits cleared, and they decode to the same command.
--- Assumes nothing.
+-- Twelve bytes, decoded and laid out again: the ignored bits are cleared, and they decode to the same command. Assumes nothing.
 use mathlib.Core.Path.{_≡_, _∙_, refl, sym, ap}
 use mathlib.Core.Bool.{Bool, true, false}
 use mathlib.Core.List.{List, [], _∷_, _++_}
@@ -13,6 +12,7 @@ use Rattle.laws.specs.Table.{listed, at}
 use Rattle.nav_command.specs.declared.RegisterBank.{RegisterBank}
 use Rattle.nav_command.specs.declared.RegisterBank.the-variants.{Gpr, Psr, PsrSecondary}
 use Rattle.nav_command.specs.declared.DecodedCommand.{DecodedCommand}
+use Rattle.common.specs.Rules.{be4}
 use Rattle.nav_command.specs.Rules.{operationOf, groupOf, bankOf, operandOf, commandOf}
 use Rattle.nav_encode.specs.Rules.{codeMask, bankMask, operandMask, masked, cleared, codeOf, bitOf, bitsOf, optionOf, compareByte, setByte, bankBits, wordOf, wordBytes, bytesOf}
 use Rattle.nav_encode.proofs.Codes.{branch-code, compare-code, set-code}
@@ -207,7 +207,7 @@ fields n g s i j o c d v w =
 
 module _ (n g s x y o c d v w : ℕ) (hn : n < 8) (hg : g < 4) (hs : s < 8) (hx : x < 2) (hy : y < 2) (ho : o < 16) (hv : v < 0x1_0000_0000) (hw : w < 0x1_0000_0000) where
   laid-out : commandOf ((n * 32 + g * 8 + s) ∷ (x * 128 + y * 64 + o) ∷ c ∷ d ∷ (wordBytes v ++ wordBytes w)) ≡ fields n g s (eqb x 1) (eqb y 1) o c d v w
-  unfolding commandOf
+  unfolding commandOf be4
   laid-out =
       let en : (n * 32 + g * 8 + s) / 32 ≡ n = omega arith in
       let eg : (n * 32 + g * 8 + s) / 8 % 4 ≡ g = omega arith in
@@ -284,7 +284,7 @@ module _ (b₀ b₁ b₂ b₃ b₄ b₅ b₆ b₇ b₈ b₉ b₁₀ b₁₁ : �
       ∙ ap (λ (x : List ℕ). code-bytes ++ x) (masked-operand (leb 1 (b₀ / 32)) flag₁ b₄ b₄ b₅ b₆ b₇ (b₈ ∷ b₉ ∷ b₁₀ ∷ b₁₁ ∷ []) (operandMask (leb 2 (b₀ / 32)) flag₂ b₈)))
 
   pub kept : bytesOf (commandOf bytes) ≡ cleared bytes
-  unfolding bytesOf commandOf
+  unfolding bytesOf commandOf be4
   kept =
       ap (λ (x : ℕ). x ∷ (laid-code ++ (wordBytes first ++ wordBytes second))) head-part
       ∙ ap (λ (x : List ℕ). bitAnd b₀ 0xFF ∷ (x ++ (wordBytes first ++ wordBytes second))) code-part
@@ -296,7 +296,7 @@ module _ (b₀ b₁ b₂ b₃ b₄ b₅ b₆ b₇ b₈ b₉ b₁₀ b₁₁ : �
   word-lt w₀ w₁ w₂ w₃ k₀ k₁ k₂ k₃ = omega arith
 
   pub again : commandOf (bytesOf (commandOf bytes)) ≡ commandOf bytes
-  unfolding bytesOf commandOf
+  unfolding bytesOf commandOf be4
   again =
       let en : b₀ / 32 % 8 ≡ b₀ / 32 = omega arith in
       let es : b₀ % 8 % 8 ≡ b₀ % 8 = omega arith in

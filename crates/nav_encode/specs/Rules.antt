@@ -1,5 +1,4 @@
--- The twelve bytes of a command (document 01, module 4: "The encoder writes, among all commands that decode to the given
--- one, the one whose ignored bits are zero"). Assumes nothing.
+-- The twelve bytes of a command, whose ignored bits are zero (document 01, module 4). Assumes nothing.
 use mathlib.Core.Bool.{Bool, true, false, cond, _&&_}
 use mathlib.Core.List.{List, [], _∷_, _++_}
 use Prim.Native.Nat.{ℕ, zero, suc, _+_, _*_, _/_, _%_, _<_}
@@ -30,8 +29,7 @@ pub record Twelve (bytes : List ℕ) : Type 0 where
   pub long : length bytes ≡ 12
   pub small : (i : ℕ) → byteAt bytes i < 256
 
--- Which bits decoding looks at. The first byte whole; of the second the two flags, and the low half for a branch option;
--- the third for a compare code, the fourth for any other.
+-- The bits that decoding looks at: byte 0, the two flags, and the branch option, the compare code (byte 2) or the set code (byte 3).
 
 abbrev pub codeMask : ℕ → List ℕ
 codeMask zero = 0xCF ∷ 0 ∷ 0 ∷ []

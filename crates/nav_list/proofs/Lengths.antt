@@ -22,7 +22,9 @@ use Rattle.nav_command.specs.declared.Operation.the-variants.{Branch, Compare, 
 use Rattle.nav_command.specs.declared.RegisterBank.the-variants.{Gpr, Psr, PsrSecondary}
 use Rattle.nav_command.specs.declared.Operand.{Operand}
 use Rattle.nav_command.specs.declared.Operand.the-variants.{Absent, Immediate, Register}
-use Rattle.nav_command.specs.Rules.{byteAt, wordAt, compares, branchRows, setRows, branchOf, compareOf, setOf, operationOf, groupOf, operandOf, commandOf, numberOf}
+use Rattle.common.specs.Rules.{be4}
+use Rattle.common.specs.Laws.{be4-below}
+use Rattle.nav_command.specs.Rules.{byteAt, compares, branchRows, setRows, branchOf, compareOf, setOf, operationOf, groupOf, operandOf, commandOf, numberOf}
 use Rattle.nav_list.specs.declared.Line.{Line}
 use Rattle.nav_list.specs.declared.Listed.the-variants.{At, Refused}
 use Rattle.nav_list.specs.Rules.{unknownText, headText, immediateText, generalText, tickText, statusText, operandText, secondText, operandsText, lineOf, listing, listOf}
@@ -212,24 +214,21 @@ operands-short Absent p n m = omega arith
 operands-short (Immediate value) p n m = omega (arith, operand-short (Immediate value) n, second-short p m, length-append (operandText (Immediate value)) (secondText p))
 operands-short (Register bank i) p n m = omega (arith, operand-short (Register bank i) n, second-short p m, length-append (operandText (Register bank i)) (secondText p))
 
-word-lt : (a b c d : ℕ) → a < 256 → b < 256 → c < 256 → d < 256 → a * 0x100_0000 + b * 0x1_0000 + c * 0x100 + d < 0x1_0000_0000
-word-lt a b c d h₀ h₁ h₂ h₃ = omega arith
-
 pub longest : LongestLine
 unfolding lineOf commandOf
 longest b t =
     let s = t .small in
     let op : Operation = operationOf (groupOf (byteAt b 0 / 8 % 4)) (byteAt b 0 % 8) (byteAt b 1 % 16) (byteAt b 2) (byteAt b 3) in
-    let o : Operand = operandOf (leb 1 (byteAt b 0 / 32)) (eqb (byteAt b 1 / 128) 1) (wordAt b 4) in
-    let p : Operand = operandOf (leb 2 (byteAt b 0 / 32)) (eqb (byteAt b 1 / 64 % 2) 1) (wordAt b 8) in
+    let o : Operand = operandOf (leb 1 (byteAt b 0 / 32)) (eqb (byteAt b 1 / 128) 1) (be4 b 4) in
+    let p : Operand = operandOf (leb 2 (byteAt b 0 / 32)) (eqb (byteAt b 1 / 64 % 2) 1) (be4 b 8) in
     let e : length (headText op ++ operandsText o p) ≡ length (headText op) + length (operandsText o p) = length-append (headText op) (operandsText o p) in
     omega (
       arith,
       e,
       head-short op (small-operation (byteAt b 0 / 8 % 4) (byteAt b 0 % 8) (byteAt b 1 % 16) (byteAt b 2) (byteAt b 3) (omega arith) (omega arith) (s 2) (s 3)),
       operands-short o p
-          (narrow (leb 1 (byteAt b 0 / 32)) (eqb (byteAt b 1 / 128) 1) (wordAt b 4) (word-lt _ _ _ _ (s 4) (s 5) (s 6) (s 7)))
-          (narrow (leb 2 (byteAt b 0 / 32)) (eqb (byteAt b 1 / 64 % 2) 1) (wordAt b 8) (word-lt _ _ _ _ (s 8) (s 9) (s 10) (s 11))),
+          (narrow (leb 1 (byteAt b 0 / 32)) (eqb (byteAt b 1 / 128) 1) (be4 b 4) (be4-below b 4 s))
+          (narrow (leb 2 (byteAt b 0 / 32)) (eqb (byteAt b 1 / 64 % 2) 1) (be4 b 8) (be4-below b 8 s)),
     )
 
 -- a line that was written into a local array stands there whole

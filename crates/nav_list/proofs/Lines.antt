@@ -15,7 +15,8 @@ use Rattle.nav_command.specs.declared.Operand.the-variants.{Absent, Immediate, 
 use Rattle.nav_command.specs.declared.Operation.{Operation}
 use Rattle.nav_command.specs.declared.Operation.the-variants.{Branch, Compare, Set, System, Unknown}
 use Rattle.nav_command.specs.declared.DecodedCommand.{DecodedCommand}
-use Rattle.nav_command.specs.Rules.{byteAt, wordAt, groupOf, operationOf, operandOf, commandOf, numberOf}
+use Rattle.common.specs.Rules.{be4}
+use Rattle.nav_command.specs.Rules.{byteAt, groupOf, operationOf, operandOf, commandOf, numberOf}
 use Rattle.nav_numbers.specs.declared.Pair.{Pair}
 use Rattle.nav_numbers.specs.declared.Place.{Place}
 use Rattle.nav_numbers.specs.Rules.{unknownOf, operandPair}
@@ -110,7 +111,8 @@ module _ (file : List ℕ) (from : ℕ) where
   abbrev part : List ℕ
   part = take 12 (drop from file)
 
-  word-part : (i : ℕ) → i + 4 ≤ 12 → wordAt part i ≡ wordAt file (from + i)
+  word-part : (i : ℕ) → i + 4 ≤ 12 → be4 part i ≡ be4 file (from + i)
+  unfolding be4
   word-part i h =
       let e₁ : from + (i + 1) ≡ from + i + 1 = omega arith in
       let e₂ : from + (i + 2) ≡ from + i + 2 = omega arith in
@@ -127,26 +129,26 @@ module _ (file : List ℕ) (from : ℕ) where
   abbrev b₁ : ℕ
   b₁ = byteAt file (from + 1)
 
-  line-is : lineAt file from ≡ headText (operationOf (groupOf (b₀ / 8 % 4)) (b₀ % 8) (b₁ % 16) (byteAt file (from + 2)) (byteAt file (from + 3))) ++ operandsText (operandOf (leb 1 (b₀ / 32)) (eqb (b₁ / 128) 1) (wordAt file (from + 4))) (operandOf (leb 2 (b₀ / 32)) (eqb (b₁ / 64 % 2) 1) (wordAt file (from + 8)))
+  line-is : lineAt file from ≡ headText (operationOf (groupOf (b₀ / 8 % 4)) (b₀ % 8) (b₁ % 16) (byteAt file (from + 2)) (byteAt file (from + 3))) ++ operandsText (operandOf (leb 1 (b₀ / 32)) (eqb (b₁ / 128) 1) (be4 file (from + 4))) (operandOf (leb 2 (b₀ / 32)) (eqb (b₁ / 64 % 2) 1) (be4 file (from + 8)))
   unfolding lineAt lineOf commandOf
   line-is = rw (byte₀, part-at file from 12 1 (omega arith), part-at file from 12 2 (omega arith), part-at file from 12 3 (omega arith), word-part 4 (omega arith), word-part 8 (omega arith))
 
   pub lines-at : {h : Place} {a b : Pair} →
       h ≡ placeOf (operationOf (groupOf (b₀ % 32 / 8)) (b₀ % 32 % 8) (b₁ % 16) (byteAt file (from + 2)) (byteAt file (from + 3))) →
-      a ≡ operandPair (operandOf (leb 1 (b₀ / 32)) (eqb (b₁ / 128) 1) (wordAt file (from + 4))) →
-      b ≡ operandPair (operandOf (leb 2 (b₀ / 32)) (eqb (b₁ / 64 % 2) 1) (wordAt file (from + 8))) →
+      a ≡ operandPair (operandOf (leb 1 (b₀ / 32)) (eqb (b₁ / 128) 1) (be4 file (from + 4))) →
+      b ≡ operandPair (operandOf (leb 2 (b₀ / 32)) (eqb (b₁ / 64 % 2) 1) (be4 file (from + 8))) →
       byteAt file (from + 2) < 256 → byteAt file (from + 3) < 256 → a .value < 0x1_0000_0000 → b .value < 0x1_0000_0000 →
       Lines (lineAt file from) (line h a b)
   lines-at x y z i j f g =
       let op : Operation = operationOf (groupOf (b₀ / 8 % 4)) (b₀ % 8) (b₁ % 16) (byteAt file (from + 2)) (byteAt file (from + 3)) in
-      let o : Operand = operandOf (leb 1 (b₀ / 32)) (eqb (b₁ / 128) 1) (wordAt file (from + 4)) in
-      let p : Operand = operandOf (leb 2 (b₀ / 32)) (eqb (b₁ / 64 % 2) 1) (wordAt file (from + 8)) in
+      let o : Operand = operandOf (leb 1 (b₀ / 32)) (eqb (b₁ / 128) 1) (be4 file (from + 4)) in
+      let p : Operand = operandOf (leb 2 (b₀ / 32)) (eqb (b₁ / 64 % 2) 1) (be4 file (from + 8)) in
       let narrow = unknown-small op (small-operation (b₀ / 8 % 4) (b₀ % 8) (b₁ % 16) (byteAt file (from + 2)) (byteAt file (from + 3)) (omega arith) (omega arith) i j) in
       told op o p _ line-is (x ∙ low-place b₀ (b₁ % 16) (byteAt file (from + 2)) (byteAt file (from + 3))) y z
       (record {
         sub = narrow .0;
         code = narrow .1;
-        first = operand-small (leb 1 (b₀ / 32)) (eqb (b₁ / 128) 1) (wordAt file (from + 4));
-        second = operand-small (leb 2 (b₀ / 32)) (eqb (b₁ / 64 % 2) 1) (wordAt file (from + 8));
+        first = operand-small (leb 1 (b₀ / 32)) (eqb (b₁ / 128) 1) (be4 file (from + 4));
+        second = operand-small (leb 2 (b₀ / 32)) (eqb (b₁ / 64 % 2) 1) (be4 file (from + 8));
       })
       f g

@@ -1,5 +1,4 @@
--- The same line by numbers, as the code lists it: an operation by its number on the sheet, 0 if it is unknown; an operand
--- by its kind, 0 absent, 1 immediate, 2 general, 3 status, 4 secondary. Assumes nothing.
+-- The same line by the numbers of `nav_numbers`, as the code lists it. Assumes nothing.
 use mathlib.Core.Path.{_≡_}
 use mathlib.Core.Bool.{true, false}
 use mathlib.Core.List.{List, [], _++_}

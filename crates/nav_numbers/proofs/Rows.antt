@@ -12,7 +12,8 @@ use Rattle.laws.specs.Table.{listed, at as listed-at}
 use Rattle.nav_command.specs.declared.CommandGroup.the-variants.{Reserved}
 use Rattle.nav_command.specs.declared.Operation.{Operation}
 use Rattle.nav_command.specs.declared.Operation.the-variants.{Compare, Unknown}
-use Rattle.nav_command.specs.Rules.{compares, branchRows, setRows, branchOf, compareOf, setOf, groups, groupOf, operationOf, operandOf, byteAt, wordAt, countOf, groupBits, subOf, immediate1, immediate2, commandOf}
+use Rattle.common.specs.Rules.{be4}
+use Rattle.nav_command.specs.Rules.{compares, branchRows, setRows, branchOf, compareOf, setOf, groups, groupOf, operationOf, operandOf, byteAt, countOf, groupBits, subOf, immediate1, immediate2, commandOf}
 use Rattle.nav_command.proofs.Laws.{past}
 use Rattle.nav_numbers.specs.declared.Pair.{Pair}
 use Rattle.nav_numbers.specs.declared.Place.{Place}
@@ -139,7 +140,7 @@ same-thirteen e1 e2 e3 e4 e5 e6 e7 e8 e9 = cc
 
 pub numbers-told : (l : List ℕ) {op : Place} {a b : Pair} {n kind value sub f1 f2 : ℕ} →
     op ≡ placeOf (operationOf (groupOf (byteAt l 0 % 32 / 8)) (byteAt l 0 % 32 % 8) (byteAt l 1 % 16) (byteAt l 2) (byteAt l 3)) →
-    a ≡ operandPair (operandOf (leb 1 (countOf l)) (immediate1 l) (wordAt l 4)) → b ≡ operandPair (operandOf (leb 2 (countOf l)) (immediate2 l) (wordAt l 8)) →
+    a ≡ operandPair (operandOf (leb 1 (countOf l)) (immediate1 l) (be4 l 4)) → b ≡ operandPair (operandOf (leb 2 (countOf l)) (immediate2 l) (be4 l 8)) →
     n ≡ countOf l → kind ≡ groupPair (groupOf (groupBits l)) .kind → value ≡ groupPair (groupOf (groupBits l)) .value → sub ≡ subOf l →
     f1 ≡ flagNumber (immediate1 l) → f2 ≡ flagNumber (immediate2 l) →
     thirteen n kind value sub f1 f2 op a b ≡ commandNumbers (commandOf l)

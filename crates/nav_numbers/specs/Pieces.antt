@@ -15,8 +15,7 @@ use Rattle.nav_numbers.specs.declared.Place.{Place}
 use Rattle.nav_numbers.specs.declared.Row.{Row}
 use Rattle.nav_numbers.specs.Rules.{unknownOf}
 
--- An operation's numbers together; and the rows of the sheet, by group and sub-group: their operations, of which there are
--- `count`, numbered from `first` on, and so the numbers of the operation at a place in a row.
+-- An operation's numbers together, and the sheet's rows by group and sub-group: `count` operations, numbered from `first` on.
 
 abbrev pub place : ℕ → ℕ → ℕ → Place
 place n sub code = record { number = n; sub = sub; code = code }

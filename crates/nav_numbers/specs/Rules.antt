@@ -1,5 +1,4 @@
--- One command as thirteen numbers, and back (document 01: "Where an answer is an enum, a definition gives this paper's number
--- and values for every case, and the promises use that definition"). Assumes nothing.
+-- One command as thirteen numbers, and back (document 01: "a definition gives this paper's number and values for every case"). Assumes nothing.
 use mathlib.Core.Bool.{Bool, true, false, cond, not}
 use mathlib.Core.List.{List, [], _∷_, _++_, map}
 use Prim.Native.Nat.{ℕ, _-_, _%_}
@@ -34,8 +33,7 @@ unknownOf (Set op) = pair 0 0
 unknownOf (System op) = pair 0 0
 unknownOf (Unknown sub code) = pair sub code
 
--- ---- a decoded command: operand count; group and its bits if it is reserved; sub-group; two flags; the operation's place on
--- the sheet, and sub-group and code of an unknown one; and for each operand its kind and value
+-- ---- a decoded command: count; group, with its bits if reserved; sub-group; flags; operation, with its codes if unknown; operands
 
 abbrev pub groupPair : CommandGroup → Pair
 groupPair G.Branch = pair 0 0

@@ -8,7 +8,7 @@ ghost use Rattle.nav_numbers.specs.Rules.{flagNumber, pair, unknownOf, g
 ghost use Rattle.nav_numbers.specs.Pieces.{placeOf, rowOf, rowIn, Numbered, rowPlace};
 ghost use Rattle.nav_numbers.specs.Theorems.{small, NumbersNameCommands};
 use common::number_at;
-use nav_command::BranchOp;
+use nav_command::BRANCHES;
 use nav_command::COMPARES;
 use nav_command::CommandGroup;
 use nav_command::DecodedCommand;
@@ -306,24 +306,6 @@ pub fn numbers_of(bytes: &[u8; 12]) -> [u32; 13]
         b.value,
     ]
 }
-
-// The three rows of branches, which stand first on the sheet.
-const BRANCHES: [BranchOp; 14] = [
-    BranchOp::Nop,
-    BranchOp::GoTo,
-    BranchOp::Break,
-    BranchOp::JumpObject,
-    BranchOp::JumpTitle,
-    BranchOp::CallObject,
-    BranchOp::CallTitle,
-    BranchOp::Resume,
-    BranchOp::PlayPL,
-    BranchOp::PlayPLatPlayItem,
-    BranchOp::PlayPLatMark,
-    BranchOp::TerminatePL,
-    BranchOp::LinkPI,
-    BranchOp::LinkMK,
-];
 
 pub fn low_byte(number: u32) -> u8
     ensures { λ r. ⌜ r ≡ number % 256 ⌝ }

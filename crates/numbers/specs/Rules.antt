@@ -1,5 +1,4 @@
--- The numbers of answers and sessions (document 01: "Where an answer is an enum, a definition gives this paper's number and
--- values for every case, and the promises use that definition"); those of commands stand in `nav_numbers`. Assumes nothing.
+-- The numbers of answers and sessions (document 01: "this paper's number and values for every case"). Assumes nothing.
 use mathlib.Core.Bool.{not}
 use mathlib.Core.List.{List, [], _∷_}
 use Prim.Native.Nat.{ℕ}
@@ -31,8 +30,7 @@ use Rattle.numbers.specs.declared.Request.{Request}
 
 -- ---- requests
 
--- A request is four numbers: its operation's place on the sheet, 0 for a system request whose code is unknown; two operands,
--- 0 where there is none; and the unknown code, else 0.
+-- A request: its operation's place on the sheet, two operands, and the code of an unknown one; 0 for what it doesn't have.
 abbrev pub request : ℕ → ℕ → ℕ → ℕ → Request
 request op a b code = record { op = op; first = a; second = b; code = code }
 

@@ -6,10 +6,10 @@ use Prim.Native.String.{String}
 use lib.ListN.{replicate}
 use Rattle.laws.specs.Firsts.{sum, all, allBelow, blocks}
 use Rattle.laws.specs.Over.{over}
-use Rattle.common.specs.Rules.{be2, be4, bytes2, bytes4, headerOf}
+use Rattle.common.specs.Rules.{be2, be4, bytes2, bytes4, headerOf, roomVerdict}
 use Rattle.text.specs.Rules.{bytes, numeral}
 use Rattle.nav_list.specs.Rules.{listOf}
-use Rattle.movie_object.specs.Rules.{countOf, next, place, bodyOf, verdictOf, commandCount, commandsOf, parseOf, headAt, objectOf}
+use Rattle.movie_object.specs.Rules.{countOf, next, place, bodyOf, verdictOf, commandsOf, parseOf, headAt, objectOf}
 use Rattle.movie_object_list.specs.Rules.{countText, headingText, objectText, fileText, listObject, listFile}
 use Rattle.movie_object_write.specs.Rules.{cmdsAt, objectBytes, object, headBytes, sizeOf, fileOf, encodable, writeVerdict, writeOf}
 use Rattle.lent.specs.Rules.{handed, size, measured}
@@ -17,7 +17,7 @@ use Rattle.object_calls.specs.Rules.{objectsCall, objectCall, listObject
 
 -- what the examples compute with
 opened : Unit {0}
-unfolding sum all allBelow blocks over be2 be4 bytes2 bytes4 headerOf numeral listOf countOf next place bodyOf verdictOf commandCount commandsOf parseOf headAt objectOf countText headingText objectText fileText listObject listFile cmdsAt objectBytes object headBytes sizeOf fileOf encodable writeVerdict writeOf objectsCall objectCall listObjectCall listCall writeObjectsCall
+unfolding sum all allBelow blocks over be2 be4 bytes2 bytes4 headerOf roomVerdict numeral listOf countOf next place bodyOf verdictOf commandsOf parseOf headAt objectOf countText headingText objectText fileText listObject listFile cmdsAt objectBytes object headBytes sizeOf fileOf encodable writeVerdict writeOf objectsCall objectCall listObjectCall listCall writeObjectsCall
 opened = tt
 
 -- a file of one object with a Nop, which asks to be resumed

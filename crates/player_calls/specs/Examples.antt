@@ -3,7 +3,7 @@ use mathlib.Core.Path.{_≡_, refl}
 use mathlib.Core.List.{List, [], _∷_, _++_}
 use Prim.Native.Nat.{ℕ}
 use lib.ListN.{set, replicate}
-use Rattle.common.specs.Rules.{bytes4}
+use Rattle.common.specs.Rules.{be4, bytes4}
 use Rattle.nav_command.specs.Rules.{branchOf, setOf as setCode, operandOf, commandOf}
 use Rattle.registers.specs.Rules.{banks, freshGeneral, freshStatus, written, applied, setOf, bankOf, readOf, putOf}
 use Rattle.vm.specs.Rules.{execSet, acted, execOf, stepOf, runFrom, runOf, commandsOf, budgetOf, answered, stepAnswer, runAnswer}
@@ -12,7 +12,7 @@ use Rattle.player_calls.specs.Rules.{banked, told, machine, freshBanks, 
 
 -- what the examples compute with
 opened : Unit {0}
-unfolding bytes4 branchOf setCode operandOf commandOf written applied setOf bankOf readOf putOf execSet acted execOf stepOf runFrom runOf commandsOf budgetOf answered stepAnswer runAnswer freshBanks freshSession defaultBudgets readCall setCall stepCall runCall
+unfolding bytes4 branchOf setCode operandOf be4 commandOf written applied setOf bankOf readOf putOf execSet acted execOf stepOf runFrom runOf commandsOf budgetOf answered stepAnswer runAnswer freshBanks freshSession defaultBudgets readCall setCall stepCall runCall
 opened = tt
 
 -- the bytes of a command's three words, and P2

@@ -1,5 +1,4 @@
--- What the calls for C of banks, sessions, budgets and the command machine hand back and leave, in the numbers of `numbers`. A refusal
--- hands back its number and leaves all as it was. Assumes nothing.
+-- What the calls for C of banks, sessions, budgets and the machine hand back and leave, by `numbers`; a refusal alters nothing. Assumes nothing.
 use mathlib.Core.List.{List, [], _∷_}
 use mathlib.Core.Bool.{cond, _&&_}
 use Prim.Native.Nat.{ℕ}

@@ -1,17 +1,18 @@
--- Examples of big-endian reads and of the header (document 01, module 2 and "Numbers and bounds"). Assumes nothing.
+-- Examples of big-endian reads and writes, of the header and of a writer's room (document 01, module 2 and "Numbers and bounds"). Assumes nothing.
 use mathlib.Core.Path.{_≡_, refl}
 use mathlib.Core.Bool.{true, false}
 use mathlib.Core.List.{List, [], _∷_}
 use Prim.Native.Nat.{ℕ, _+_, _-_}
 use lib.ListN.{getD, replicate}
 use Rattle.laws.specs.Firsts.{all, allBelow}
-use Rattle.error.specs.declared.Refusal.the-variants.{BadHeader, BadBody}
+use Rattle.laws.specs.Over.{over}
+use Rattle.error.specs.declared.Refusal.the-variants.{BadHeader, BadBody, NoRoom}
 use Rattle.error.specs.declared.Verdict.the-variants as verdict
 use Rattle.common.specs.declared.Moved.the-variants as moved
 use Rattle.common.specs.declared.Byte.the-variants as byte
 use Rattle.common.specs.declared.Half.the-variants as half
 use Rattle.common.specs.declared.Word.the-variants as word
-use Rattle.common.specs.Rules.{be2, be4, reader, seekOf, readU8, readU16, readU32, headerOf}
+use Rattle.common.specs.Rules.{be2, be4, bytes2, bytes4, reader, seekOf, readU8, readU16, readU32, limit, headerOf, roomVerdict}
 
 -- six bytes
 abbrev six : List ℕ
@@ -65,7 +66,7 @@ lengths-39-and-40 : headerOf mobj (fileOf 39) ∷ headerOf mobj (fileOf 40) ∷ 
 unfolding be4 headerOf
 lengths-39-and-40 = refl
 
--- Without a position, places count from 0, and past the end stands 0: bytes, numbers, and halves of which a byte is there.
+-- Without a position, places count from 0, and past the end stands 0: bytes, numbers, and halves and words that the end cuts.
 bytes-5-and-6 : getD six 5 0 ∷ getD six 6 0 ∷ [] ≡ 6 ∷ 0 ∷ []
 bytes-5-and-6 = refl
 
@@ -76,7 +77,33 @@ half-cut-by-the-end : be2 six 5 ≡ 0x0600
 unfolding be2
 half-cut-by-the-end = refl
 
+words-1-and-4 : be4 six 1 ∷ be4 six 4 ∷ [] ≡ 0x0203_0405 ∷ 0x0506_0000 ∷ []
+unfolding be4
+words-1-and-4 = refl
+
 -- A flag of 2 doesn't fit its bit (9 not encodable).
 flags : allBelow 2 (0 ∷ 1 ∷ []) 2 ∷ allBelow 2 (0 ∷ 2 ∷ 1 ∷ []) 3 ∷ [] ≡ true ∷ false ∷ []
 unfolding all allBelow
 flags = refl
+
+-- A file of the limit is written where the room is as long, and not where it is shorter; a longer one never.
+rooms : roomVerdict limit limit ∷ roomVerdict limit 99 ∷ roomVerdict (limit + 1) (limit + 1) ∷ [] ≡ verdict.Fine ∷ verdict.Refused NoRoom ∷ verdict.Refused NoRoom ∷ []
+unfolding roomVerdict
+rooms = refl
+
+-- Writes are big-endian, at a place, and leave the rest as it was.
+half-written : over six 1 (bytes2 0xABCD) ≡ 1 ∷ 0xAB ∷ 0xCD ∷ 4 ∷ 5 ∷ 6 ∷ []
+unfolding over bytes2
+half-written = refl
+
+word-written : over six 1 (bytes4 0xABCD_EF01) ≡ 1 ∷ 0xAB ∷ 0xCD ∷ 0xEF ∷ 0x01 ∷ 6 ∷ []
+unfolding over bytes4
+word-written = refl
+
+zeros-written : over six 2 (replicate 3 0) ≡ 1 ∷ 2 ∷ 0 ∷ 0 ∷ 0 ∷ 6 ∷ []
+unfolding over
+zeros-written = refl
+
+bytes-written : over six 3 (7 ∷ 8 ∷ []) ≡ 1 ∷ 2 ∷ 3 ∷ 7 ∷ 8 ∷ 6 ∷ []
+unfolding over
+bytes-written = refl

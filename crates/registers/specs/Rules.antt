@@ -1,5 +1,4 @@
--- The register banks: what they hold, how operands read and write them, and what a Set command leaves (document 01, "One
--- command"). Assumes nothing.
+-- The register banks, how operands read and write them, and what a Set leaves (document 01, "One command"). Assumes nothing.
 use mathlib.Core.Bool.{Bool, false, cond}
 use mathlib.Core.List.{List}
 use Prim.Native.Nat.{ℕ}
@@ -110,8 +109,7 @@ refuses r fine = cond fine Fit.Fine (Fit.Refused r)
 unfoldable pub bankOf : ℕ → List ℕ → Verdict
 bankOf size bank = refuses BadBuffer (eqb (length bank) size)
 
--- The player's own reads and writes of a bank of `size` registers. A number from `size` on names none: nothing is read or
--- written there.
+-- The player's own reads and writes of a bank of `size` registers: a number from `size` on names none.
 
 abbrev pub readBy : Verdict → Read → Read
 readBy Fit.Fine r = r

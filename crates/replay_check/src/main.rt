@@ -1,5 +1,4 @@
-// Replays the disc check on discs that the Rust's machine has judged, and prints how many there are and how many differ.
-// Its standard input is made by compare/src/bin/answers_check.rs, which says what an answer holds.
+// Replays the disc check on the discs that compare/src/bin/answers_check.rs lists, and prints how many there are and how many differ.
 use libc::STDIN_FILENO;
 use replay_list::Replayed;
 use replay_list::half;

@@ -1,5 +1,4 @@
-// Replays commands that the Rust has decoded and listed, and prints how many there are and how many differ.
-// Its standard input is made by compare/src/bin/answers_commands.rs, which says what a record holds.
+// Replays the commands that compare/src/bin/answers_commands.rs lists, and prints how many there are and how many differ.
 ghost use mathlib.Core.Path.{_≡_};
 ghost use Prim.Native.Nat.{_+_, _≤_};
 ghost use lib.ListN.{length};
@@ -11,17 +10,9 @@ use nav_command::CommandGroup;
 use nav_command::DecodedCommand;
 use nav_command::Operand;
 use nav_command::Operation;
-use nav_command::RegisterBank;
 use nav_list::Listed;
 use replay_list::print;
 use replay_list::same;
-
-// An operation in numbers.
-struct Coded {
-    number: u8,
-    sub: u8,
-    code: u8,
-}
 
 // Where the next record starts, and whether this one agrees with the port.
 enum Replayed {
@@ -38,63 +29,35 @@ fn group_number(group: CommandGroup) -> u8 {
     }
 }
 
-fn named(number: u8) -> Coded {
-    Coded {
-        number,
-        sub: 0,
-        code: 0,
-    }
-}
-
-fn numbered(operation: Operation) -> Coded {
-    match operation {
-        Operation::Branch(op) => named(nav_encode::branch_number(op)),
-        Operation::Compare(op) => named(14 + nav_encode::compare_number(op)),
-        Operation::Set(op) => named(21 + nav_encode::set_number(op)),
-        Operation::System(op) => named(36 + nav_encode::system_number(op)),
-        Operation::Unknown { sub_grp, selector } => Coded {
-            number: 0,
-            sub: sub_grp,
-            code: selector,
-        },
-    }
-}
-
 fn flag(set: bool, value: u8) -> u8
     ensures { λ r. ⌜ r ≤ value ⌝ }
 {
     if set { value } else { 0 }
 }
 
-fn put_value(out: &mut [u8], at: usize, kind: u8, value: u32) -> usize {
-    let a = text::put_byte(out, at, kind);
-    let b = text::put_byte(out, a, (value / 0x100_0000 % 256) as u8);
-    let c = text::put_byte(out, b, (value / 0x1_0000 % 256) as u8);
-    let d = text::put_byte(out, c, (value / 0x100 % 256) as u8);
-    text::put_byte(out, d, (value % 256) as u8)
+// The low byte of a number.
+fn put_low(out: &mut [u8], at: usize, number: u32) -> usize {
+    text::put_byte(out, at, nav_numbers::low_byte(number))
 }
 
-fn put_register(out: &mut [u8], at: usize, bank: RegisterBank, index: u16) -> usize {
-    match bank {
-        RegisterBank::Gpr => put_value(out, at, 2, index as u32),
-        RegisterBank::Psr => put_value(out, at, 3, index as u32),
-        RegisterBank::PsrSecondary => put_value(out, at, 4, index as u32),
-    }
+fn put_value(out: &mut [u8], at: usize, value: u32) -> usize {
+    let a = put_low(out, at, value / 0x100_0000);
+    let b = put_low(out, a, value / 0x1_0000);
+    let c = put_low(out, b, value / 0x100);
+    put_low(out, c, value)
 }
 
 fn put_operand(out: &mut [u8], at: usize, operand: Operand) -> usize {
-    match operand {
-        Operand::Absent => put_value(out, at, 0, 0),
-        Operand::Immediate(value) => put_value(out, at, 1, value),
-        Operand::Register { bank, index } => put_register(out, at, bank, index),
-    }
+    let found = nav_numbers::operand_pair(operand);
+    let a = put_low(out, at, found.kind);
+    put_value(out, a, found.value)
 }
 
 fn put_operation(out: &mut [u8], at: usize, operation: Operation) -> usize {
-    let op = numbered(operation);
-    let a = text::put_byte(out, at, op.number);
-    let b = text::put_byte(out, a, op.sub);
-    text::put_byte(out, b, op.code)
+    let unknown = nav_numbers::unknown_of(operation);
+    let a = put_low(out, at, nav_numbers::operation_number(operation));
+    let b = put_low(out, a, unknown.kind);
+    put_low(out, b, unknown.value)
 }
 
 fn put_head(out: &mut [u8], command: DecodedCommand) -> usize {

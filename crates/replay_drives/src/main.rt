@@ -1,5 +1,4 @@
-// Replays runs and resumes that the Rust has answered, and prints how many cases there are and how many numbers differ.
-// Its standard input is made by compare/src/bin/answers_drives.rs, which says what a case holds.
+// Replays the runs that compare/src/bin/answers_drives.rs lists, and prints how many there are and how many numbers differ.
 ghost use Prim.Native.Nat.{_<_};
 use libc::STDIN_FILENO;
 use mobj_runner::RunAnswer;

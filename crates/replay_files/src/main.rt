@@ -1,10 +1,8 @@
-// Replays files that the Rust has read, listed and written again, and prints how many there are and how many differ.
-// Its standard input is made by compare/src/bin/answers_files.rs, which says what a record and an answer hold.
+// Replays the files that compare/src/bin/answers_files.rs lists, and prints how many there are and how many differ.
 ghost use mathlib.Core.Path.{_≡_};
-ghost use Prim.Native.Nat.{_+_, _*_, _≤_, _<_};
+ghost use Prim.Native.Nat.{_≤_, _<_};
 ghost use lib.ListN.{length};
 ghost use Rattle.error.specs.declared.Verdict.the-variants.{Fine};
-ghost use Rattle.common.specs.Rules.{be2};
 ghost use Rattle.movie_object.specs.Rules.{verdictOf};
 ghost use Rattle.movie_object.specs.Pieces.{Placed};
 use common::Written;
@@ -133,6 +131,14 @@ fn put_made(out: &mut [u8], at: usize, made: &[u8], size: usize, file: &[u8]) ->
     at
 }
 
+// A writer's answer beside what it wrote.
+fn put_answer(out: &mut [u8], at: usize, written: Written, made: &[u8], file: &[u8]) -> usize {
+    match written {
+        Written::Bytes(size) => put_made(out, at, made, size, file),
+        Written::Refused(why) => text::put_byte(out, at, why.number()),
+    }
+}
+
 fn put_count(counts: &mut [u32], at: usize, count: u32) {
     if at < counts.len() {
         counts[at] = count;
@@ -166,7 +172,7 @@ fn gather_at(
 ) -> usize
     requires { ⌜ (verdictOf (now file) ≡ Fine) × Placed (now file) (now places) ⌝ }
 {
-    let count = movie_object::object_count(file);
+    let count = movie_object::count_of(file);
     let mut used = 0;
     let mut n: u32 = 0;
     while n < count {
@@ -181,52 +187,22 @@ fn gather_at(
 }
 
 // The listing program's whole text.
-fn list(file: &[u8]) -> Measured
-    requires { ⌜ length (now file) ≤ 65536 ⌝ }
-{
-    let mut places = [0u32; 16384];
-    let found = movie_object::walk_places(file, &mut places);
-    match found {
-        Verdict::Refused(_) => nothing(),
-        Verdict::Fine => list_all(file, &places),
-    }
+fn list(file: &[u8]) -> Measured {
+    let mut room = [0u8; 1638400];
+    list_into(file, &mut room)
 }
 
-fn list_all(file: &[u8], places: &[u32]) -> Measured
-    requires { ⌜ (verdictOf (now file) ≡ Fine) × Placed (now file) (now places) ⌝ }
-{
-    let mut room = [0u8; 655360];
-    list_at(file, places, &mut room)
-}
-
-fn list_at(file: &[u8], places: &[u32], room: &mut [u8]) -> Measured
-    requires { ⌜ (verdictOf (now file) ≡ Fine) × Placed (now file) (now places) ⌝ }
-{
-    let count = movie_object::object_count(file);
-    let mut listed = nothing();
-    let mut n: u32 = 0;
-    while n < count {
-        let head = places[n as usize] as usize;
-        listed = list_one(file, head, n as u16, room, listed);
-        n += 1;
-    }
-    listed
-}
-
-fn list_one(file: &[u8], head: usize, n: u16, room: &mut [u8], so_far: Measured) -> Measured
-    requires { ⌜ head + 4 + 12 * be2 (now file) (head + 2) ≤ length (now file) ⌝ }
-{
-    let listed = movie_object_list::list_at(file, head, n, room, 0);
+fn list_into(file: &[u8], room: &mut [u8]) -> Measured {
+    let listed = movie_object_list::list_all(file, room, 0);
     match listed {
-        Listed::At(end) => with_line(room, end, so_far),
+        Listed::At(end) => measured_first(room, end),
         Listed::Refused(_) => nothing(),
     }
 }
 
-fn with_line(room: &mut [u8], end: usize, so_far: Measured) -> Measured {
-    let past = text::put(room, end, b"\n");
-    if past <= room.len() {
-        return with_more(so_far, &room[..past]);
+fn measured_first(room: &[u8], end: usize) -> Measured {
+    if end <= room.len() {
+        return with_more(nothing(), &room[..end]);
     }
     nothing()
 }
@@ -283,10 +259,7 @@ fn put_written(
 ) -> usize {
     let mut made = [0u8; 65536];
     let written = movie_object_write::write(version, flags, counts, commands, &mut made);
-    match written {
-        Written::Bytes(size) => put_made(out, at, &made, size, file),
-        Written::Refused(why) => text::put_byte(out, at, why.number()),
-    }
+    put_answer(out, at, written, &made, file)
 }
 
 // What was read of all objects, the listing, and the file written again.
@@ -298,9 +271,7 @@ fn put_record(
     flags: &[u8],
     counts: &[u32],
     commands: &[u8],
-) -> usize
-    requires { ⌜ length (now file) ≤ 65536 ⌝ }
-{
+) -> usize {
     let a = put_measured(out, at, with_more(nothing(), flags));
     let b = put_measured(out, a, with_counts(nothing(), counts));
     let c = put_measured(out, b, list(file));
@@ -550,10 +521,7 @@ fn put_written_index(
         &names[..5 * n],
         &mut made,
     );
-    match written {
-        Written::Bytes(size) => put_made(out, at, &made, size, index),
-        Written::Refused(why) => text::put_byte(out, at, why.number()),
-    }
+    put_answer(out, at, written, &made, index)
 }
 
 // The answer on an index file that is read, behind its refusal.

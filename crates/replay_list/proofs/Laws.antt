@@ -1,4 +1,4 @@
--- Sums of 32 bits, numbers of four bytes, differences counted one by one, and registers set one by one. Assumes nothing.
+-- Sums of 32 bits, differences counted one by one, and registers set one by one. Assumes nothing.
 use mathlib.Core.Path.{_≡_, refl, sym, ap, _∙_, subst}
 use mathlib.Core.Bool.{true, false}
 use mathlib.Core.List.{List}
@@ -13,11 +13,6 @@ use Rattle.common.specs.Rules.{be2, be4}
 use Rattle.registers.specs.Rules.{Banks, banks, freshGeneral, freshStatus, putOf}
 use Rattle.replay_list.specs.declared.Replayed.{Replayed}
 use Rattle.replay_list.specs.Rules.{replayed, Same, apart, differing, listedDifferences, compared, setOne, setFirst, setAll, registersEnd, bankDifferences, banksDifferences, comparedBanks}
-
--- a number of four bytes is two of two bytes
-pub two-halves : (s : List ℕ) (at : ℕ) → be2 s at * 65536 + be2 s (at + 2) ≡ be4 s at
-unfolding be2 be4
-two-halves s at = rw (add-assoc at 2 1) (omega arith)
 
 -- ---- sums of 32 bits
 

@@ -47,8 +47,7 @@ listedDifferences got s next k = differing (λ (i : ℕ). getD got i 0) (λ (i :
 unfoldable pub compared : List ℕ → List ℕ → Replayed → Replayed
 compared got s r = differsBy (onwardBy r (4 * length got)) (listedDifferences got s (r .next) (length got))
 
--- A register as it is listed at a place: 0 for a general one and else status, its number in two bytes, its value in four.
--- It is set as the player sets it.
+-- A register as listed: 0 for a general one, else status; its number in two bytes, its value in four. The player sets it.
 unfoldable pub setOne : List ℕ → ℕ → Banks → Banks
 setOne s at b =
     cond (eqb (getD s at 0) 0)

@@ -9,6 +9,7 @@ ghost use Rattle.replay_list.specs.Rules.{partOf, onwardBy, differsBy, a
 use common::byte_at;
 use common::half_at;
 use common::number_at;
+use common::word_at;
 use libc::STDOUT_FILENO;
 use registers::Registers;
 
@@ -32,17 +33,10 @@ pub fn half(input: &[u8], at: u32, past: u32) -> u32
     half_at(input, at as usize + past as usize) as u32
 }
 
-fn join(high: u16, low: u16) -> u32
-    ensures { λ r. ⌜ r ≡ high * 65536 + low ⌝ }
-{
-    (high as u32) * 65536 + (low as u32)
-}
-
 pub fn number(input: &[u8], at: u32, past: u32) -> u32
     ensures { λ r. ⌜ r ≡ be4 (now (input .entry)) (at + past) ⌝ }
 {
-    let from = at as usize + past as usize;
-    join(half_at(input, from), half_at(input, from + 2))
+    word_at(input, at as usize + past as usize)
 }
 
 // So many bytes of the list from a place on; none where it ends before.

@@ -1,5 +1,4 @@
-// Replays cases that the Rust has answered, and prints how many there are and how many answers or registers differ.
-// Its standard input is made by compare/src/bin/answers_vm.rs, which says what a case holds.
+// Replays the cases that compare/src/bin/answers_vm.rs lists, and prints how many there are and how many answers or registers differ.
 use libc::STDIN_FILENO;
 use registers::Registers;
 use replay_list::Replayed;

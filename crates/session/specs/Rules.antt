@@ -1,5 +1,4 @@
--- What a drive is handed: sessions, budgets and frames, and when they are refused (document 01, "Numbers and bounds").
--- Assumes nothing.
+-- Sessions, budgets and frames, and when they are refused (document 01, "Numbers and bounds"). Assumes nothing.
 use mathlib.Core.Bool.{Bool, true, false, cond, not, _||_, _&&_}
 use mathlib.Core.List.{List}
 use Prim.Native.Nat.{ℕ, zero, suc, _+_, _*_, _/_}
@@ -66,23 +65,23 @@ budgetsVerdict b = refusedIf (ltb 1000000 (b .steps) || ltb 100000 (b .objects) 
 unfoldable pub entryVerdict : ℕ → Verdict
 entryVerdict e = refusedIf (ltb 65537 e) NotAnEntry
 
--- 8: a depth exceeds its room, the entry exceeds 65,537, or, while pending, its object or a live frame's object isn't on
--- the disc or a live title frame's entry exceeds 65,537.
-
--- the object of each of the first `d` object frames is one of `n`
+-- Whether the object of each of the first `d` object frames is one of `n`.
 unfoldable pub objectsLive : List ℕ → ℕ → ℕ → Bool
 objectsLive f n zero = true
 objectsLive f n (suc d) = cond (leb n (objectFrame f d .object)) false (objectsLive f n d)
 
+-- The same of title frames, whose entries are at most 65,537.
 unfoldable pub titlesLive : List ℕ → ℕ → ℕ → Bool
 titlesLive t n zero = true
 titlesLive t n (suc d) =
     cond (ltb 65537 (titleFrame t d .entry) || leb n (titleFrame t d .object)) false (titlesLive t n d)
 
+-- 8, while pending: the current object, or one of a live frame, isn't on the disc, or a live title frame's entry exceeds 65,537.
 unfoldable pub liveVerdict : List ℕ → List ℕ → ℕ → Session → Verdict
 liveVerdict f t n s =
     refusedIf (leb n (s .object) || not (objectsLive f n (s .odepth) && titlesLive t n (s .tdepth))) BadSession
 
+-- 8: a depth exceeds its room, the entry exceeds 65,537, or, while pending, the rule before.
 unfoldable pub sessionVerdict : List ℕ → List ℕ → ℕ → Session → Bool → Verdict
 sessionVerdict f t n s waits =
     cond (ltb (objectRoom f) (s .odepth) || ltb (titleRoom t) (s .tdepth) || ltb 65537 (s .entry))

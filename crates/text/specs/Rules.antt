@@ -40,8 +40,7 @@ rightIn width t = blanks (width - length t) ++ t
 unfoldable pub place : ℕ → ℕ
 place n = cond (ltb n (2 ^ 64)) n (2 ^ 64 - 1)
 
--- The text t was written from place `at` on into room that held l and holds l′ now, and r is the place after it.
--- What would stand past the end of the room is not written.
+-- The text t was written at `at` into room that held l and now holds l′, cut off at its end, and r is the place after t.
 pub record Wrote (l : List ℕ) (at : ℕ) (t l′ : List ℕ) (r : ℕ) : Type 0 where
   pub held : l′ ≡ sets l at t
   pub end : r ≡ place (at + length t)

@@ -1,5 +1,4 @@
-// Text into lent room: it has no counterpart in the Rust, which builds strings.
-// Each function writes from a place on and answers the place after; what would stand past the end is not written.
+// Text into lent room, from a place on and cut off at its end; each function answers the place after. The Rust builds strings.
 ghost use mathlib.Core.Path.{_≡_};
 ghost use mathlib.Core.Bool.{true};
 ghost use mathlib.Core.List.{[], _∷_};

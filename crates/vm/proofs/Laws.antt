@@ -9,7 +9,7 @@ use lib.ListN.{length, getD, set, List·getD-eq-default}
 use borrow.Author.Tests.{le-leb, lt-leb, ne-eqb}
 use Rattle.common.specs.Rules.{be4}
 use Rattle.registers.proofs.Laws.{NoneOf, beyond, from-one, sets-nothing}
-use Rattle.nav_command.specs.Rules.{byteAt, wordAt, groupBits, subOf, groups, commandOf, gotos, jumps, plays, compares}
+use Rattle.nav_command.specs.Rules.{byteAt, groupBits, subOf, groups, commandOf, gotos, jumps, plays, compares}
 use Rattle.nav_command.specs.Rules as nav
 use Rattle.nav_command.proofs.Laws.{no-row, no-row-1}
 use Rattle.nav_command.specs.declared.CommandGroup.the-variants.{Reserved}
@@ -37,11 +37,11 @@ use Rattle.vm.specs.Pieces.{rawFirst, rawSecond, firstValue, secondValue
 
 -- the operands' numbers
 module _ (cs : List ℕ) (at : ℕ) where
-  pub first-word : be4 cs (at + 4) ≡ wordAt (fetched cs at) 4
+  pub first-word : be4 cs (at + 4) ≡ be4 (fetched cs at) 4
   unfolding be4
   first-word = simp add-assoc
 
-  pub second-word : be4 cs (at + 8) ≡ wordAt (fetched cs at) 8
+  pub second-word : be4 cs (at + 8) ≡ be4 (fetched cs at) 8
   unfolding be4
   second-word = simp add-assoc
 

@@ -78,8 +78,7 @@ module _ (cs : List ℕ) (Keeps : ℕ → Banks → Type 0) (kept : (pc : ℕ) (
   unfolding runOf
   run-keeps left steps pc s h = from left steps false pc s h
 
--- what holds of a system request and of a Set holds of every command of their group, and what holds of a halt and of a
--- command holds of every step
+-- what holds of a system request and of a Set holds of all of their group, and what holds of a halt and of a command holds of every step
 either-set : (P : After Stepped → Type 0) (sub : ℕ) (op : Operation) (a b : Operand) (x y pc : ℕ) (s : Banks)
     → P (with s (systemOf op x y pc)) → P (with (setOf op a b x y s) (on pc)) → P (execSet sub op a b x y pc s)
 unfolding execSet
@@ -184,8 +183,7 @@ module _ (g p : ℕ) where
   pub run-sized : (cs : List ℕ) (left steps pc : ℕ) (s : Banks) → Sized g p s → Sized g p (runOf cs left steps pc s .regs)
   run-sized cs left steps pc s h = run-keeps cs (λ pc s. Sized g p s) (λ pc s h. sized-step cs pc s h) left steps pc s h
 
--- A run ends with a request only where some step asked for it: what holds of every step's request, from registers that every
--- step keeps fit, holds of the run's.
+-- What holds of every step's request, from registers that every step keeps fit, holds of the run's.
 
 module _ (cs : List ℕ) (Fit : Banks → Type 0) (kept : (pc : ℕ) (s : Banks) → Fit s → Fit (stepOf cs pc s .regs)) (Asked : NavRequest → Type 0)
     (asked : (pc : ℕ) (s : Banks) (q : NavRequest) → Fit s → stepOf cs pc s .answer .step ≡ Branch q → Asked q) where

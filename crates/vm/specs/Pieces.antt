@@ -3,7 +3,8 @@ use mathlib.Core.Bool.{Bool, true, false}
 use mathlib.Core.List.{List}
 use Prim.Native.Nat.{ℕ, _%_}
 use lib.Dec.{leb}
-use Rattle.nav_command.specs.Rules.{byteAt, wordAt, countOf, subOf, immediate1, immediate2}
+use Rattle.common.specs.Rules.{be4}
+use Rattle.nav_command.specs.Rules.{byteAt, countOf, subOf, immediate1, immediate2}
 use Rattle.nav_command.specs.Rules as nav
 use Rattle.registers.specs.declared.Raw.{Raw}
 use Rattle.registers.specs.Rules.{Banks, valueOf, setOf}
@@ -18,10 +19,10 @@ use Rattle.vm.specs.Rules.{After, execBranch, holdsFor, compareOf, execS
 -- What the code's pieces mean: an operand's flags and word, a command taken for one of a group, and a run of one step.
 
 abbrev pub rawFirst : List ℕ → Raw
-rawFirst bytes = raw (leb 1 (countOf bytes)) (immediate1 bytes) (wordAt bytes 4)
+rawFirst bytes = raw (leb 1 (countOf bytes)) (immediate1 bytes) (be4 bytes 4)
 
 abbrev pub rawSecond : List ℕ → Raw
-rawSecond bytes = raw (leb 2 (countOf bytes)) (immediate2 bytes) (wordAt bytes 8)
+rawSecond bytes = raw (leb 2 (countOf bytes)) (immediate2 bytes) (be4 bytes 8)
 
 abbrev pub firstValue : List ℕ → Banks → ℕ
 firstValue bytes s = valueOf (meant (rawFirst bytes)) s

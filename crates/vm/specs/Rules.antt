@@ -139,8 +139,7 @@ stepOf cs pc s =
     cond (leb (length cs / 12) pc) (with s (halted pc))
     (execOf (commandOf (fetched cs (12 * pc))) (pc + 1) (length cs / 12) s)
 
--- A run: it has taken `steps` steps, of which the last skipped a command or not, and may take `left` more. A spent budget
--- ends it before a fetch.
+-- A run has taken `steps` steps, the last of which skipped or not, and may take `left` more; a spent budget ends it before a fetch.
 
 abbrev pub nextOf : Step → Next
 nextOf Continue = Go false
@@ -168,8 +167,7 @@ runOf cs left steps pc s = runFrom cs left steps false pc s
 abbrev pub fresh : HdmvVm
 fresh = record { pc = 0; budget = 1_000_000 }
 
--- The public calls. Refusal 6: banks not 4,096 and 128 numbers, or commands not in whole twelves; then 7: a budget over
--- 1,000,000. A refusal alters nothing.
+-- The public calls. 6: banks not of 4,096 and 128, or commands not in whole twelves; 7: a budget over 1,000,000; both alter nothing.
 
 unfoldable pub commandsOf : List ℕ → Verdict
 commandsOf cs = refuses BadBuffer (eqb (length cs % 12) 0)

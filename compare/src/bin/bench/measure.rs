@@ -1,5 +1,4 @@
-//! Times of several works in one process, taken in turn: the thread's own processor time, so that what else the machine
-//! does counts as little as can be.
+//! Times of several works in turn: the thread's own processor time, which what else the machine does hardly touches.
 
 /// So many nanoseconds a measurement lasts at least, and so often it is taken.
 const LASTS: f64 = 2e6;

@@ -1,5 +1,4 @@
-//! Runs and resumes of the runner and of the driver, with writes by the player and by the caller between them: outcome,
-//! session, every register and every number of the frame rooms.
+//! Runs and resumes, with writes between them: outcome, session, every register and every number of the frame rooms.
 use crate::check::{Case, Compared, Tally, hex, same, same_list};
 use crate::sides::{Read, Sides};
 use mescjadro_compare::bdmv::movie_object::MovieObjects;

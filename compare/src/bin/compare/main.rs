@@ -1,6 +1,4 @@
-//! Holds the library and the Rust side by side: `compare [SEED [COUNT]]`, and `compare --first ..` ends at the first
-//! difference. COUNT is how many random cases of each kind
-//! are made, and four times as many of the machine and the drives; the short inputs and the limits are always the same.
+//! Holds the library and the Rust side by side: `compare [--first] [SEED [COUNT]]`; with `--first` it ends at the first difference.
 mod check;
 mod checks;
 mod commands;

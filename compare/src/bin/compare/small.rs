@@ -1,5 +1,4 @@
-//! Short inputs, all of them: every code and operand of a command, every beginning of small files, every name of
-//! boundary bytes, every disc of two objects with two commands out of thirteen.
+//! Short inputs, all of them: codes and operands, beginnings of small files, names of boundary bytes, discs of two objects.
 use crate::check::Tally;
 use crate::checks::Check;
 use crate::commands::{all_codes, all_operands};
@@ -38,8 +37,7 @@ fn disc_number(n: usize) -> Disc {
     discs::of(titles(), vec![vec![command(0), command(1)], vec![command(2), command(3)]])
 }
 
-/// Every disc of two objects with two commands of the palette: checked, and driven with every triple of up to
-/// three steps, three object transitions and two title transitions.
+/// Every disc of two objects with two commands of the palette: checked, and driven with every triple of small budgets.
 fn all_discs(tally: &mut Tally) {
     let index = disc_number(0).index_file();
     for n in 0..PALETTE.len().pow(4) {

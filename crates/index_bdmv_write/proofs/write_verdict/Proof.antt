@@ -30,19 +30,11 @@ add-size c = let l = fields c .good .lengths in omega (arith, l .few)
 
 returns : tie.Need-returns
 unfolding writeVerdict sizeOf titlesOf
-returns c = rw (sym (c .before .before .is-encodable .ensures) ∙ c .before .if1 .taken, lt-ltb _ _ (c .if2 .taken))
+returns c = rw (sym (c .before .before .is-encodable .ensures) ∙ c .before .if1 .taken) (c .room-verdict .ensures)
 
 returns-2 : tie.Need-returns-2
-unfolding writeVerdict sizeOf titlesOf
-returns-2 c = rw (sym (c .before .before .before .is-encodable .ensures) ∙ c .before .before .if1 .taken, le-ltb _ _ (c .before .if2 .left), lt-ltb _ _ (c .if3 .taken))
-
-returns-3 : tie.Need-returns-3
-unfolding writeVerdict sizeOf titlesOf
-returns-3 c = rw (sym (c .before .before .before .is-encodable .ensures) ∙ c .before .before .if1 .taken, le-ltb _ _ (c .before .if2 .left), le-ltb _ _ (c .if3 .left))
-
-returns-4 : tie.Need-returns-4
 unfolding writeVerdict
-returns-4 c = rw (sym (c .before .is-encodable .ensures) ∙ c .if1 .left)
+returns-2 c = rw (sym (c .before .is-encodable .ensures) ∙ c .if1 .left)
 
 pub write-verdict-spec : {M : Type 1} → statement M
 write-verdict-spec =
@@ -52,7 +44,6 @@ write-verdict-spec =
     sub-size
     mul-size
     add-size
+    (λ c κs. search needs)
     returns
-    returns-2
-    returns-3
-    returns-4)
+    returns-2)

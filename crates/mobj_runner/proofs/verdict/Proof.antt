@@ -18,13 +18,16 @@ returns-3 : tie.Need-returns-3
 unfolding verdictFor
 returns-3 c = settled-refused (c .enum-told6 .given .1) (rw (sym (c .before .before .before .before .before .before .before .before .before .before .before .buffers-verdict .ensures) ∙ c .before .before .before .before .before .before .before .before .before .enum-told .given .1, sym (c .before .before .before .before .before .before .before .before .verdict .ensures) ∙ c .before .before .before .before .before .before .enum-told3 .given .1, sym (c .before .before .before .before .walk-places .ensures .judged) ∙ c .enum-told6 .given .1))
 
+count-of-requires : tie.Need-count-of-requires
+count-of-requires c κs = sym (c .before .before .before .before .walk-places .ensures .judged) ∙ c .enum-told5 .given .1
+
 returns-4 : tie.Need-returns-4
 unfolding verdictFor
 returns-4 c =
     let buffers = sym (c .before .before .before .before .before .before .before .before .before .before .before .before .before .buffers-verdict .ensures) ∙ c .before .before .before .before .before .before .before .before .before .before .before .enum-told .given .1 in
     let objects = sym (c .before .before .before .before .before .before .walk-places .ensures .judged) ∙ c .before .before .enum-told5 .given .1 in
     record {
-      judged = c .session-verdict .ensures ∙ rw (buffers, sym (c .before .before .before .before .before .before .before .before .before .before .verdict .ensures) ∙ c .before .before .before .before .before .before .before .before .enum-told3 .given .1, objects, c .before .object-count .ensures);
+      judged = c .session-verdict .ensures ∙ rw (buffers, sym (c .before .before .before .before .before .before .before .before .before .before .verdict .ensures) ∙ c .before .before .before .before .before .before .before .before .enum-told3 .given .1, objects, c .before .count-of .ensures);
       fine = λ h. objects;
       placed = λ h. c .before .before .before .before .before .before .walk-places .ensures .placed (c .before .before .enum-told5 .given .1) (rw (c .before .before .before .before .before .before .walk-places .kept .1 .0) (c .before .before .before .before .before .before .before .before .before .before .before .before .before .before .before .before .before .before .before .before .pre));
       general = λ h. buffers-banks _ _ _ _ buffers .0;
@@ -49,7 +52,7 @@ verdict-spec =
     (λ c. search needs)
     (λ c. search needs)
     returns-3
-    (λ c κs. search needs)
+    count-of-requires
     (λ c κs. search needs)
     (λ c. search needs)
     returns-4)

@@ -23,7 +23,7 @@ add-if2 : tie.Need-add-if2
 add-if2 c = omega (arith, good _ (c .before .before .before .before .pre .1) .head .short)
 
 returns-2 : tie.Need-returns-2
-returns-2 c = let a = c .before .before .before .before .before .args in sym (le-leb (a .at + length (fileText (now (a .file)))) (a .room) (omega (arith, c .before .before .if1 .left, c .if2 .taken, c .before .object-count .ensures, file-short (now (a .file)) (λ i. omega (arith, c .before .before .before .shared-slice-known2 .given i)) (c .before .before .before .before .before .pre .1))))
+returns-2 c = let a = c .before .before .before .before .before .args in sym (le-leb (a .at + length (fileText (now (a .file)))) (a .room) (omega (arith, c .before .before .if1 .left, c .if2 .taken, c .before .count-of .ensures, file-short (now (a .file)) (λ i. omega (arith, c .before .before .before .shared-slice-known2 .given i)) (c .before .before .before .before .before .pre .1))))
 
 returns-3 : tie.Need-returns-3
 returns-3 c = let a = c .before .before .before .before .before .before .args in rw (c .file-length .ensures) (left-test (a .at) (length (fileText (now (a .file)))) (a .room) (omega (arith, c .before .before .before .if1 .left)))

@@ -23,7 +23,7 @@ abbrev μ-loop : tie.MeasureT-loop
 
 -- object n is on the disc and lies within the file
 there : (c : tie.In-loop Inv-loop μ-loop) → c .before .loop .n < countOf (now (c .before .before .before .before .before .args .file))
-there c = omega (arith, c .loop-test .taken, c .before .before .object-count .ensures)
+there c = omega (arith, c .loop-test .taken, c .before .before .count-of .ensures)
 
 inside : (c : tie.In-loop Inv-loop μ-loop) → let p = c .before .loop .head in let s = now (c .before .before .before .before .before .args .file) in p + 4 + 12 * be2 s (p + 2) ≤ length s
 inside c = object-here (now (c .before .before .before .before .before .args .file)) (c .before .loop .n) (c .before .loop .head) (there c) (c .before .loop .inv .1) (c .before .before .before .before .before .pre .1)
@@ -77,7 +77,7 @@ loop-again c = (omega (arith, c .before .before .loop-test .taken), c .next-head
 
 returns : tie.Need-returns Inv-loop μ-loop
 unfolding fileText
-returns c = let e : c .before .loop .n ≡ countOf (now (c .before .before .before .before .before .args .file)) = omega (arith, c .before .loop .inv .0, c .loop-test .left, c .before .before .object-count .ensures) in c .before .loop .inv .2 ∙ ap (λ (k : ℕ). length (blocks (blockText (now (c .before .before .before .before .before .args .file))) k)) e
+returns c = let e : c .before .loop .n ≡ countOf (now (c .before .before .before .before .before .args .file)) = omega (arith, c .before .loop .inv .0, c .loop-test .left, c .before .before .count-of .ensures) in c .before .loop .inv .2 ∙ ap (λ (k : ℕ). length (blocks (blockText (now (c .before .before .before .before .before .args .file))) k)) e
 
 pub file-length-spec : {M : Type 1} → statement M
 file-length-spec =

@@ -14,7 +14,7 @@ use Rattle.movie_object_list.proofs.list_one.Statement.{statement}
 use Rattle.movie_object_list.proofs.list_one.Tie as tie
 
 there : (c : tie.Then1) → c .before .before .before .before .args .n < countOf (now (c .before .before .before .before .args .file))
-there c = omega (arith, c .if1 .taken, c .before .object-count .ensures)
+there c = omega (arith, c .if1 .taken, c .before .count-of .ensures)
 
 cast-list-at : tie.Need-cast-list-at
 unfolding countOf
@@ -27,7 +27,7 @@ returns : tie.Need-returns
 returns c = rw (lt-ltb _ _ (there (c .before .before .before .before .before))) (c .before .before .list-at .ensures ∙ ap (listOf (now (c .before .before .before .before .before .before .before .before .before .args .out)) (c .before .before .before .before .before .before .before .before .before .args .at)) (text-of _ _ _ (there (c .before .before .before .before .before)) (c .before .before .before .before .place-of .ensures)))
 
 returns-2 : tie.Need-returns-2
-returns-2 c = rw (le-ltb _ _ (rw (c .before .object-count .ensures) at (c .if1 .left)))
+returns-2 c = rw (le-ltb _ _ (rw (c .before .count-of .ensures) at (c .if1 .left)))
 
 pub list-one-spec : {M : Type 1} → statement M
 list-one-spec =

@@ -25,7 +25,7 @@ abbrev μ-loop : tie.MeasureT-loop
 
 -- object n is on the disc and lies within the file
 there : (c : tie.In-loop Inv-loop μ-loop) → c .before .loop .n < countOf (now (c .before .before .before .before .before .before .args .file))
-there c = omega (arith, c .loop-test .taken, c .before .before .object-count .ensures)
+there c = omega (arith, c .loop-test .taken, c .before .before .count-of .ensures)
 
 inside : (c : tie.In-loop Inv-loop μ-loop) → let p = c .before .loop .head in let s = now (c .before .before .before .before .before .before .args .file) in p + 4 + 12 * be2 s (p + 2) ≤ length s
 inside c = object-here (now (c .before .before .before .before .before .before .args .file)) (c .before .loop .n) (c .before .loop .head) (there c) (c .before .loop .inv .1) (c .before .before .before .before .before .before .pre .1)
@@ -54,7 +54,7 @@ same-length c = c .before .loop .inv .2
 
 returns : tie.Need-returns Inv-loop μ-loop
 unfolding fileText
-returns c = let l = c .before .loop in let a = c .before .before .before .before .before .before .args in let e : l .n ≡ countOf (now (a .file)) = omega (arith, l .inv .0, c .loop-test .left, c .before .before .object-count .ensures) in subst (λ (k : ℕ). Wrote (now (a .out)) (a .at) (blocks (blockText (now (a .file))) k) (l .out) (l .p)) e (l .inv .3)
+returns c = let l = c .before .loop in let a = c .before .before .before .before .before .before .args in let e : l .n ≡ countOf (now (a .file)) = omega (arith, l .inv .0, c .loop-test .left, c .before .before .count-of .ensures) in subst (λ (k : ℕ). Wrote (now (a .out)) (a .at) (blocks (blockText (now (a .file))) k) (l .out) (l .p)) e (l .inv .3)
 
 pub put-objects-spec : {M : Type 1} → statement M
 put-objects-spec =

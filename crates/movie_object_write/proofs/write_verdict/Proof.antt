@@ -26,19 +26,11 @@ add-size-2 c = omega (arith, fields c .few, commands-few _ _ _ (fields c))
 
 returns-2 : tie.Need-returns-2
 unfolding writeVerdict
-returns-2 c = simp (eq-eqb _ _ (c .before .before .before .if1 .left), sym (c .before .before .is-encodable .ensures) ∙ c .before .if2 .taken, lt-ltb _ _ (rw (size (c .before)) at (c .if3 .taken)))
+returns-2 c = simp (eq-eqb _ _ (c .before .before .before .if1 .left), sym (c .before .before .is-encodable .ensures) ∙ c .before .if2 .taken, sym (size (c .before))) (c .room-verdict .ensures)
 
 returns-3 : tie.Need-returns-3
 unfolding writeVerdict
-returns-3 c = simp (eq-eqb _ _ (c .before .before .before .before .if1 .left), sym (c .before .before .before .is-encodable .ensures) ∙ c .before .before .if2 .taken, le-ltb _ _ (rw (size (c .before .before)) at (c .before .if3 .left)), lt-ltb _ _ (rw (size (c .before .before)) at (c .if4 .taken)))
-
-returns-4 : tie.Need-returns-4
-unfolding writeVerdict
-returns-4 c = simp (eq-eqb _ _ (c .before .before .before .before .if1 .left), sym (c .before .before .before .is-encodable .ensures) ∙ c .before .before .if2 .taken, le-ltb _ _ (rw (size (c .before .before)) at (c .before .if3 .left)), le-ltb _ _ (rw (size (c .before .before)) at (c .if4 .left)))
-
-returns-5 : tie.Need-returns-5
-unfolding writeVerdict
-returns-5 c = simp (eq-eqb _ _ (c .before .before .if1 .left), sym (c .before .is-encodable .ensures) ∙ c .if2 .left)
+returns-3 c = simp (eq-eqb _ _ (c .before .before .if1 .left), sym (c .before .is-encodable .ensures) ∙ c .if2 .left)
 
 pub write-verdict-spec : {M : Type 1} → statement M
 write-verdict-spec =
@@ -49,7 +41,6 @@ write-verdict-spec =
     (λ c. search needs)
     (λ c. search needs)
     add-size-2
+    (λ c κs. search needs)
     returns-2
-    returns-3
-    returns-4
-    returns-5)
+    returns-3)

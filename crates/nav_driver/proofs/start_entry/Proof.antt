@@ -24,11 +24,11 @@ drive-requires c κs =
 
 returns : tie.Need-returns
 unfolding startOf
-returns c = rw (← c .before .before .before .before .before .before .before .before .before .before .before .before .before .before .before .before .before .before .before .before .before .before .before .resolve .ensures, c .before .before .before .before .before .before .before .before .before .before .before .before .before .before .before .before .before .before .before .before .before .object .given .1, ← c .before .before .before .before .before .before .before .before .before .before .before .before .before .before .before .before .before .before .before .before .before .before .before .before .object-count .ensures, ← c .before .before .before .before .before .before .before .before .before .before .before .before .before .before .before .before .before .before .enter .ensures, c .before .before .before .before .before .before .before .before .before .before .before .before .before .before .next .given .1) (c .before .before .before .before .before .before .before .before .drive .ensures)
+returns c = rw (← c .before .before .before .before .before .before .before .before .before .before .before .before .before .before .before .before .before .before .before .before .before .before .before .resolve .ensures, c .before .before .before .before .before .before .before .before .before .before .before .before .before .before .before .before .before .before .before .before .before .object .given .1, ← c .before .before .before .before .before .before .before .before .before .before .before .before .before .before .before .before .before .before .before .before .before .before .before .before .count-of .ensures, ← c .before .before .before .before .before .before .before .before .before .before .before .before .before .before .before .before .before .before .enter .ensures, c .before .before .before .before .before .before .before .before .before .before .before .before .before .before .next .given .1) (c .before .before .before .before .before .before .before .before .drive .ensures)
 
 returns-2 : tie.Need-returns-2
 unfolding startOf
-returns-2 c = rw (← c .before .before .before .before .before .before .before .before .before .before .resolve .ensures, c .before .before .before .before .before .before .before .before .object .given .1, ← c .before .before .before .before .before .before .before .before .before .before .before .object-count .ensures, ← c .before .before .before .before .before .enter .ensures, c .before .session .given .1)
+returns-2 c = rw (← c .before .before .before .before .before .before .before .before .before .before .resolve .ensures, c .before .before .before .before .before .before .before .before .object .given .1, ← c .before .before .before .before .before .before .before .before .before .before .before .count-of .ensures, ← c .before .before .before .before .before .enter .ensures, c .before .session .given .1)
 
 returns-3 : tie.Need-returns-3
 unfolding startOf

@@ -26,6 +26,9 @@ returns-5 : tie.Need-returns-5
 unfolding verdictFor
 returns-5 c = settled-refused (c .enum-told10 .given .1) (rw (sym (c .before .before .before .before .before .before .before .before .before .before .before .before .before .before .before .before .before .buffers-verdict .ensures) ∙ c .before .before .before .before .before .before .before .before .before .before .before .before .before .before .before .enum-told .given .1, sym (c .before .before .before .before .before .before .before .before .before .before .before .before .before .before .verdict .ensures) ∙ c .before .before .before .before .before .before .before .before .before .before .before .before .enum-told3 .given .1, sym (c .before .before .before .before .before .before .before .before .before .before .before .start-verdict .ensures) ∙ c .before .before .before .before .before .before .before .before .before .enum-told5 .given .1, sym (c .before .before .before .before .before .before .before .before .verdict2 .ensures) ∙ c .before .before .before .before .before .before .enum-told7 .given .1, sym (c .before .before .before .before .walk-places .ensures .judged) ∙ c .enum-told10 .given .1))
 
+count-of-requires : tie.Need-count-of-requires
+count-of-requires c κs = sym (c .before .before .before .before .walk-places .ensures .judged) ∙ c .enum-told9 .given .1
+
 returns-6 : tie.Need-returns-6
 unfolding verdictFor
 returns-6 c =
@@ -35,7 +38,7 @@ returns-6 c =
     record {
       judged =
           c .session-verdict .ensures
-          ∙ rw (buffers, sym (c .before .before .before .before .before .before .before .before .before .before .before .before .before .before .before .before .verdict .ensures) ∙ c .before .before .before .before .before .before .before .before .before .before .before .before .before .before .enum-told3 .given .1, sym (c .before .before .before .before .before .before .before .before .before .before .before .before .before .start-verdict .ensures) ∙ c .before .before .before .before .before .before .before .before .before .before .before .enum-told5 .given .1, entries, objects, c .before .object-count .ensures);
+          ∙ rw (buffers, sym (c .before .before .before .before .before .before .before .before .before .before .before .before .before .before .before .before .verdict .ensures) ∙ c .before .before .before .before .before .before .before .before .before .before .before .before .before .before .enum-told3 .given .1, sym (c .before .before .before .before .before .before .before .before .before .before .before .before .before .start-verdict .ensures) ∙ c .before .before .before .before .before .before .before .before .before .before .before .enum-told5 .given .1, entries, objects, c .before .count-of .ensures);
       index = λ h. entries;
       fine = λ h. objects;
       placed = λ h. c .before .before .before .before .before .before .walk-places .ensures .placed (c .before .before .enum-told9 .given .1) (rw (c .before .before .before .before .before .before .walk-places .kept .1 .0) (c .before .before .before .before .before .before .before .before .before .before .before .before .before .before .before .before .before .before .before .before .before .before .before .before .before .before .before .pre));
@@ -69,7 +72,7 @@ verdict-spec =
     (λ c. search needs)
     (λ c. search needs)
     returns-5
-    (λ c κs. search needs)
+    count-of-requires
     (λ c κs. search needs)
     (λ c. search needs)
     returns-6)

@@ -1,5 +1,4 @@
--- `list_line` writes straight into room for any line; else it stands whole in the local array, which no line outgrows, and is
--- written where it fits. Assumes nothing.
+-- The line goes straight into room for any line, and else through the local array, which no line outgrows. Assumes nothing.
 use mathlib.Core.Path.{refl, sym}
 use native.Mathlib.Omega.{arith}
 use lib.Seq.{length-take-le}

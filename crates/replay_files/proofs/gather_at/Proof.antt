@@ -18,7 +18,7 @@ abbrev μ-loop : tie.MeasureT-loop
 
 -- the object is on the disc
 there : (c : tie.In-loop Inv-loop μ-loop) → c .before .loop .n < countOf (now (c .before .before .before .before .before .before .before .before .args .file))
-there c = omega (arith, c .loop-test .taken, c .before .before .object-count .ensures)
+there c = omega (arith, c .loop-test .taken, c .before .before .count-of .ensures)
 
 loop-holds : tie.Need-loop-holds Inv-loop μ-loop
 loop-holds c = (omega arith, refl, refl, refl)

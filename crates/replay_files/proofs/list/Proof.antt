@@ -1,25 +1,12 @@
-use mathlib.Core.Path.{sym, _∙_}
-use native.Mathlib.Omega.{arith}
+use mathlib.Core.Path.{sym}
+use Prim.Native.Nat.{ℕ}
+use lib.ListN.{length-replicate}
 use borrow.Author.Needs.{needs}
-use Rattle.movie_object.specs.Laws.{good, place-least}
-use Rattle.movie_object.specs.Rules.{countOf}
-use denote.Ref.{now}
 use Rattle.replay_files.proofs.list.Statement.{statement}
 use Rattle.replay_files.proofs.list.Tie as tie
 
-list-all-requires : tie.Need-list-all-requires
-list-all-requires c κs = let s = now (c .before .before .before .before .before .before .before .args .file) in let w = c .before .before .before .before .walk-places .ensures in let f = c .before .enum-told2 .given .1 in let v = sym (w .judged) ∙ f in (v, w .placed f (omega (arith, good s v .last, place-least s (countOf s), c .before .before .before .before .before .before .before .pre)))
+slice-aggregate-list-into : tie.Need-slice-aggregate-list-into
+slice-aggregate-list-into c = sym (length-replicate {A = ℕ} 1638400 0)
 
 pub list-spec : {M : Type 1} → statement M
-list-spec =
-    tie.close
-    (tie.spec
-    (λ c. search needs)
-    (λ c κs. search needs)
-    (λ c. search needs)
-    (λ c κs. search needs)
-    (λ c. search needs)
-    (λ c. search needs)
-    list-all-requires
-    (λ c. search needs)
-    (λ c. search needs))
+list-spec = tie.close (tie.spec slice-aggregate-list-into (λ c κs. search needs) (λ c. search needs))
