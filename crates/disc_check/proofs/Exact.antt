@@ -39,7 +39,7 @@ use Rattle.disc_check.specs.declared.Reach.the-variants.{Always, Anythin
 use Rattle.disc_check.specs.declared.Found.{Found}
 use Rattle.disc_check.specs.declared.Found.the-variants.{At, Nothing}
 use Rattle.disc_check.specs.Rules.{registerReach, reachOf, leadsNowhere, objectOffends, titleOffends, branchOffends, operationOffends, groupOffends, commandOffends, offendsAt, firstCommand, inObject, firstObject, checkOf}
-use Rattle.disc_check.specs.Promise.{lacks, asking, Contents, Offence, Clean, First, Exact}
+use Rattle.disc_check.specs.Promise.{asking, Contents, Offence, Clean, First, Exact}
 
 pub true-false : {A : Type 0} → true ≡ false → A
 true-false h = absurd (subst (λ (b : Bool). T b) h tt)

@@ -6,7 +6,6 @@ use Prim.Native.Nat.{ℕ, zero, suc, _+_, _*_, _-_, _%_, _≤_, _<_}
 use lib.Dec.{eqb, leb, ltb}
 use lib.ListN.{length, getD, take, drop, replicate}
 use Rattle.laws.specs.Firsts.{all, blocks}
-use Rattle.laws.specs.Over.{over}
 use Rattle.common.specs.Rules.{be4, bytes2, bytes4, roomVerdict, Left, leftAs}
 use Rattle.utf8.specs.Rules.{isUtf8}
 use Rattle.error.specs.Rules.{firstOf, refusedIf}

@@ -4,7 +4,6 @@ use mathlib.Core.List.{List, [], _∷_, _++_}
 use Prim.Native.Nat.{ℕ, _+_, _*_}
 use lib.Dec.{eqb}
 use Rattle.laws.specs.Firsts.{blocks}
-use Rattle.common.specs.Rules.{be2}
 use Rattle.text.specs.Rules.{bytes, numeral, rightIn}
 use Rattle.error.specs.Rules.{firstOf}
 use Rattle.error.specs.declared.Verdict.{Verdict}

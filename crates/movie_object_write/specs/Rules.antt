@@ -6,7 +6,6 @@ use Prim.Native.Nat.{ℕ, _+_, _*_, _-_, _%_, _≤_, _<_}
 use lib.Dec.{eqb, leb}
 use lib.ListN.{length, getD, take, drop, replicate}
 use Rattle.laws.specs.Firsts.{sum, allBelow, blocks}
-use Rattle.laws.specs.Over.{over}
 use Rattle.common.specs.Rules.{be4, bytes2, bytes4, roomVerdict, Left, leftAs}
 use Rattle.error.specs.Rules.{firstOf, refusedIf}
 use Rattle.error.specs.declared.Refusal.the-variants.{BadBuffer, NotEncodable}

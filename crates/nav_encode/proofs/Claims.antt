@@ -15,7 +15,7 @@ use Rattle.nav_command.specs.declared.CommandGroup.{CommandGroup}
 use Rattle.nav_command.specs.declared.CommandGroup.the-variants as G
 use Rattle.nav_command.specs.declared.DecodedCommand.{DecodedCommand}
 use Rattle.nav_command.specs.Rules.{byteAt, commandOf}
-use Rattle.nav_encode.specs.Rules.{Twelve, cleared, bitsOf, optionOf, compareByte, setByte, codeOf, bytesOf, encodable, encoding, encodeOf}
+use Rattle.nav_encode.specs.Rules.{Twelve, cleared, bitsOf, optionOf, compareByte, setByte, codeOf, bytesOf, encodable, encodeOf}
 use Rattle.nav_encode.specs.Theorems.{encoded, DecodesBack, EncodesBack, NoneDecode, RefusedIfNone, IgnoredBits}
 use Rattle.nav_encode.proofs.Equal.{same-eq, same-refl}
 use Rattle.nav_encode.proofs.Round.{kept, again, bit-small}

@@ -4,7 +4,7 @@ ghost use Prim.Native.Nat.{_%_, _≤_, _<_};
 ghost use lib.ListN.{length};
 ghost use Rattle.laws.specs.Over.{over};
 ghost use Rattle.nav_command.specs.Rules.{branchNumber, compareNumber, setNumber, systemNumber};
-ghost use Rattle.nav_encode.specs.Rules.{branchCode, codeOf, bitOf, bitsOf, optionOf, compareByte, setByte, wordOf, bytesOf, groupKey, operationKey, operandKey, sameKey, sameFlags, encodable, encoding, encodeOf, key, bankBits};
+ghost use Rattle.nav_encode.specs.Rules.{branchCode, codeOf, bitOf, bitsOf, optionOf, compareByte, setByte, wordOf, bytesOf, groupKey, operationKey, operandKey, sameKey, sameFlags, encoding, encodeOf, key, bankBits};
 ghost use Rattle.nav_encode.specs.Theorems.{DecodesBack, EncodesBack, RefusedIfNone, IgnoredBits};
 ghost use Rattle.nav_encode.specs.Rules.{same as Rules·same};
 use error::Refusal;

@@ -1,6 +1,6 @@
 // What the replays share: reading a list, comparing, and telling the end. It serves tests alone; the Rust has no such module.
 ghost use mathlib.Core.Path.{_≡_};
-ghost use Prim.Native.Nat.{_+_, _*_, _<_};
+ghost use Prim.Native.Nat.{_+_, _<_};
 ghost use lib.ListN.{getD};
 ghost use Rattle.word.specs.Word.{addLow};
 ghost use Rattle.common.specs.Rules.{be2, be4};

@@ -5,7 +5,7 @@ use mathlib.Core.List.{List, [], _∷_, map}
 use Prim.Native.Nat.{ℕ, zero, suc, _+_, _-_, _*_, _/_, _%_, _≤_, _<_}
 use native.Mathlib.Nat.{add-assoc}
 use native.Mathlib.Omega.{arith}
-use lib.ListN.{length, getD, set, List·getD-eq-default}
+use lib.ListN.{length, getD, List·getD-eq-default}
 use borrow.Author.Tests.{le-leb, lt-leb, ne-eqb}
 use Rattle.common.specs.Rules.{be4}
 use Rattle.registers.proofs.Laws.{NoneOf, beyond, from-one, sets-nothing}
@@ -15,7 +15,7 @@ use Rattle.nav_command.proofs.Laws.{no-row, no-row-1}
 use Rattle.nav_command.specs.declared.CommandGroup.the-variants.{Reserved}
 use Rattle.nav_command.specs.declared.Operand.{Operand}
 use Rattle.nav_command.specs.declared.Operation.{Operation}
-use Rattle.nav_command.specs.declared.Operation.the-variants.{Compare, Set, Unknown}
+use Rattle.nav_command.specs.declared.Operation.the-variants.{Compare, Unknown}
 use Rattle.nav_command.specs.declared.Operation.the-variants as O
 use Rattle.vm.specs.declared.End.{End}
 use Rattle.vm.specs.declared.End.the-variants.{Spent}

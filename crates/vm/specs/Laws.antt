@@ -31,7 +31,7 @@ use Rattle.vm.specs.declared.Ran.{Ran}
 use Rattle.vm.specs.declared.Step.{Step}
 use Rattle.vm.specs.declared.Step.the-variants.{Continue, Skipped, Halted, Branch}
 use Rattle.vm.specs.declared.Stepped.{Stepped}
-use Rattle.vm.specs.Rules.{Banks, banks, After, with, valueOf, on, halted, goTo, branchOf, execBranch, holdsFor, compareOf, setOf, systemOf, execSet, acted, execOf, fetched, stepOf, nextOf, goesOn, runFrom, runOf, commandsOf, budgetOf, verdictOf, stepAnswer, runAnswer}
+use Rattle.vm.specs.Rules.{Banks, After, with, valueOf, on, halted, goTo, branchOf, execBranch, holdsFor, compareOf, setOf, systemOf, execSet, acted, execOf, fetched, stepOf, nextOf, goesOn, runFrom, runOf, commandsOf, budgetOf, verdictOf, stepAnswer, runAnswer}
 
 -- Any two answers that a promise of the public calls allows are equal.
 

@@ -2,7 +2,6 @@
 use mathlib.Core.Path.{sym, _∙_}
 use native.Mathlib.Omega.{arith}
 use borrow.Author.Needs.{needs}
-use borrow.Author.Tests.{lt-ltb, le-ltb}
 use Rattle.index_bdmv_write.specs.Laws.{Encodable, encodable-tells}
 use Rattle.index_bdmv_write.specs.Rules.{Entries, entries, writeVerdict, sizeOf, titlesOf}
 use denote.Ref.{now}

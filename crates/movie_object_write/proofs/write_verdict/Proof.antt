@@ -4,7 +4,7 @@ use Prim.Native.Nat.{_+_, _*_}
 use native.Mathlib.Omega.{arith}
 use lib.ListN.{length}
 use borrow.Author.Needs.{needs}
-use borrow.Author.Tests.{lt-ltb, le-ltb, eq-eqb, ne-eqb}
+use borrow.Author.Tests.{eq-eqb, ne-eqb}
 use Rattle.movie_object_write.specs.Laws.{Encodable, encodable-tells, size-is, commands-few}
 use Rattle.movie_object_write.specs.Rules.{writeVerdict, sizeOf}
 use denote.Ref.{now}

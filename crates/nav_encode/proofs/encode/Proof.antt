@@ -1,7 +1,6 @@
 -- `encode` ends in one of three ways: encoded, no room, not encodable. Assumes nothing.
 use native.Mathlib.Omega.{arith}
 use borrow.Author.Needs.{needs}
-use Rattle.nav_encode.specs.Rules.{encodable}
 use Rattle.nav_encode.proofs.Laws.{long, encoded, no-room, not-encodable}
 use Rattle.nav_encode.proofs.encode.Statement.{statement}
 use Rattle.nav_encode.proofs.encode.Tie as tie
