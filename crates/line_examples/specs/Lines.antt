@@ -1,5 +1,6 @@
 -- Examples of a command as a line of text (document 01, the listing program; the Rust's `disassemble`). Assumes nothing.
 use mathlib.Core.Path.{_≡_, refl}
+use mathlib.Core.Bool.{true}
 use mathlib.Core.List.{List, _++_}
 use Prim.Native.Nat.{ℕ}
 use lib.ListN.{length}
@@ -37,6 +38,11 @@ shift-right = refl
 title-number : nameText 4 ≡ bytes "(Title)"
 unfolding classOf nameOf nameText
 title-number = refl
+
+-- A secondary one has a tick before it.
+secondary : statusText 4 true ≡ bytes "PSR4'(Title)"
+unfolding numeral classOf nameOf nameText statusText
+secondary = refl
 
 -- Reserved registers list without a name.
 reserved-register : nameText 21 ≡ bytes ""

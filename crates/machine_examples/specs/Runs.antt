@@ -50,6 +50,11 @@ unknown-compare : stepAnswer (command 0x4840_0800 1 7 ++ nop) 0 1 fresh ≡ afte
 unfolding opened
 unknown-compare = refl
 
+-- A compare that does not hold skips the next command; past the end pc is the length.
+last-compare : stepAnswer (command 0x4840_0200 1 7) 0 1 fresh ≡ after freshGeneral freshStatus (Done (stepped Skipped 1))
+unfolding opened
+last-compare = refl
+
 -- Move r1, 16 and Move r2, 9.
 abbrev moves : List ℕ
 moves = command 0x5040_0001 1 16 ++ command 0x5040_0001 2 9
