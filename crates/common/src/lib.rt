@@ -1,4 +1,6 @@
 // Big-endian reads at a position that is handed on by value, and writes at a place (the Rust's common.rs).
+#![tactic(auto)]
+
 ghost use Rattle.std.specs.Prelude.{◌≡◌, ◌+◌, ◌*◌, ◌≤◌, length, get_or, replicate};
 ghost use Rattle.laws.specs.Firsts.{all_below};
 ghost use Rattle.laws.specs.Over.{over};

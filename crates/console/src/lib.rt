@@ -1,4 +1,6 @@
 // What the programs share: files and numbers from the command line, and the words for refusals.
+#![tactic(auto)]
+
 ghost use Rattle.std.specs.Prelude.{◌≡◌, drop};
 ghost use Rattle.io.specs.Counts.{IsPrefixLen};
 ghost use Rattle.console.specs.Rules.{begins_with, is_digit, number_of, no_number, goes_on_at, number_in};

@@ -1,4 +1,6 @@
 // Checks a disc: passed, or the first command that can ask for what the disc lacks, with its listing and what it asks for.
+#![tactic(auto)]
+
 use common::byte_at;
 use console::{say, say_number};
 use disc_check::DiscCheck;

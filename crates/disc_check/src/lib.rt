@@ -1,4 +1,6 @@
 // The disc check: whether a command on the disc can ask for what the disc lacks. Added by design; the Rust has none.
+#![tactic(auto)]
+
 ghost use Rattle.std.specs.Prelude.{◌≡◌, ◌+◌, ◌*◌, ◌/◌, ◌≤◌, length};
 ghost use Rattle.error.specs.declared.Verdict.TheVariants.{Fine};
 ghost use Rattle.index_bdmv.specs.Rules.{verdict_of as indexVerdict};

@@ -1,4 +1,6 @@
 // Drives a disc: runs it from an entry, answers every play and request with a resume, and says how each call ended.
+#![tactic(auto)]
+
 use console::{say, say_number};
 use error::{Refusal, Verdict};
 use nav_driver::{DriveAnswer, DriveEnd, DriveOutcome, Option32, PlayRequest};

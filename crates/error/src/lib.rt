@@ -1,4 +1,6 @@
 // The refusals: what is answered where a call can't be carried out (the Rust's `BlurayError`).
+#![tactic(auto)]
+
 ghost use Rattle.std.specs.Prelude.{◌≡◌};
 ghost use Rattle.error.specs.Rules.{number_of, refused_if, first_of};
 

@@ -1,4 +1,6 @@
 // Prints what an index.bdmv holds: its version, its AppInfo, and each entry with what it leads to.
+#![tactic(auto)]
+
 ghost use Rattle.std.specs.Prelude.{◌≡◌};
 ghost use Rattle.error.specs.declared.Verdict.TheVariants.{Fine};
 ghost use Rattle.index_bdmv.specs.Rules.{verdict_of};

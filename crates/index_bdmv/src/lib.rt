@@ -1,4 +1,6 @@
 // index.bdmv: which files are read, what an entry says, and which object it leads to (the Rust's index_bdmv.rs).
+#![tactic(auto)]
+
 ghost use Rattle.std.specs.Prelude.{◌≡◌, ◌+◌, ◌*◌, ◌≤◌, length};
 ghost use Rattle.error.specs.Rules.{first_of};
 ghost use Rattle.error.specs.declared.Verdict.TheVariants.{Fine};

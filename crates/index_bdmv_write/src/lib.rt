@@ -1,4 +1,6 @@
 // Writing index.bdmv into a lent buffer (the Rust's `IndexBdmv::encode`).
+#![tactic(auto)]
+
 ghost use Rattle.std.specs.Prelude.{◌≡◌, ◌+◌, ◌*◌, ◌-◌, ◌≤◌, ◌<◌, length, take, drop};
 ghost use Rattle.laws.specs.Firsts.{all, blocks};
 ghost use Rattle.laws.specs.Over.{over};

@@ -1,4 +1,6 @@
 // Numbers into lent arrays, and refusals by number: what the calls for C share.
+#![tactic(auto)]
+
 ghost use Rattle.std.specs.Prelude.{◌≡◌, length};
 ghost use Rattle.error.specs.Rules.{number_of};
 ghost use Rattle.lent.specs.Rules.{lengths_fit, verdict_number};

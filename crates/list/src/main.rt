@@ -1,4 +1,6 @@
 // Reads one MovieObject.bdmv from standard input and prints each object's listing and a line end, or why it is refused.
+#![tactic(auto)]
+
 ghost use Rattle.std.specs.Prelude.{◌≡◌, ◌*◌, ◌≤◌, length};
 ghost use Rattle.nav_list.specs.Rules.{listing};
 ghost use Rattle.list.specs.Rules.{shown_of};

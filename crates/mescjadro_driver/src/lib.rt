@@ -1,4 +1,6 @@
 // The driver for C. It is an archive member of its own, so that each holds one copy of the machine's run, within its own drive.
+#![tactic(auto)]
+
 ghost use Rattle.std.specs.Prelude.{◌≡◌, length};
 ghost use Rattle.vm.specs.Rules.{banks};
 ghost use Rattle.nav_driver.specs.Rules.{rooms};

@@ -1,4 +1,6 @@
 // The runner: follows jumps and calls between the objects of one file (the Rust's mobj_runner.rs).
+#![tactic(auto)]
+
 ghost use Rattle.std.specs.Prelude.{◌≡◌, ◌≤◌, ◌<◌, length};
 ghost use Rattle.error.specs.declared.Verdict.TheVariants.{Fine};
 ghost use Rattle.movie_object.specs.Rules.{count_of};

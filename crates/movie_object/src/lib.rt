@@ -1,4 +1,6 @@
 // MovieObject.bdmv: which files are read, what an object's head says, and its commands as a part of the file (the Rust's movie_object.rs).
+#![tactic(auto)]
+
 ghost use Rattle.std.specs.Prelude.{◌≡◌, ◌+◌, ◌*◌, ◌≤◌, ◌<◌, length, set};
 ghost use Rattle.common.specs.Rules.{be2, seek_of};
 ghost use Rattle.error.specs.declared.Verdict.TheVariants.{Fine};

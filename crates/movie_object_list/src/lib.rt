@@ -1,4 +1,6 @@
 // An object, and all objects of a file, as text into lent room (the Rust's `MovieObject::disassemble`).
+#![tactic(auto)]
+
 ghost use Rattle.std.specs.Prelude.{◌≡◌, ◌+◌, ◌*◌, ◌≤◌, leb, length};
 ghost use Rattle.laws.specs.Firsts.{blocks};
 ghost use Rattle.common.specs.Rules.{be2};

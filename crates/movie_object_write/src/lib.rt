@@ -1,4 +1,6 @@
 // Writing MovieObject.bdmv into a lent buffer (the Rust's `MovieObjects::encode`).
+#![tactic(auto)]
+
 ghost use Rattle.std.specs.Prelude.{◌≡◌, ◌+◌, ◌*◌, ◌-◌, ◌≤◌, ◌<◌, length};
 ghost use Rattle.laws.specs.Firsts.{sum, all_below, blocks};
 ghost use Rattle.laws.specs.Over.{over};

@@ -1,4 +1,6 @@
 // One navigation command: its parts, and how twelve bytes are read as one.
+#![tactic(auto)]
+
 ghost use Rattle.std.specs.Prelude.{◌≡◌, ◌<◌};
 ghost use Rattle.nav_command.specs.Rules.{branch_of, compare_of, set_of, operation_of, group_of, operand_of, command_of};
 

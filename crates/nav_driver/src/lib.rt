@@ -1,4 +1,6 @@
 // The driver: follows jumps and calls between titles, on lent registers and frames (the Rust's nav_driver.rs).
+#![tactic(auto)]
+
 ghost use Rattle.std.specs.Prelude.{◌≡◌, ◌≤◌, length};
 ghost use Rattle.error.specs.declared.Verdict.TheVariants.{Fine};
 ghost use Rattle.index_bdmv.specs.Rules.{verdict_of as indexVerdict};

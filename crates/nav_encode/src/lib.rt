@@ -1,4 +1,6 @@
 // The twelve bytes of a command: the encoder, which document 01 adds to the Rust's nav_command.rs.
+#![tactic(auto)]
+
 ghost use Rattle.std.specs.Prelude.{◌≡◌, ◌%◌, ◌≤◌, ◌<◌, length};
 ghost use Rattle.laws.specs.Over.{over};
 ghost use Rattle.nav_command.specs.Rules.{branch_number, compare_number, set_number, system_number};

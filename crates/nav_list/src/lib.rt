@@ -1,4 +1,6 @@
 // A command as a line of text (the Rust's `disassemble`), by numbers: from a decoded command, or straight from its bytes.
+#![tactic(auto)]
+
 ghost use Rattle.std.specs.Prelude.{◌≡◌, ◌+◌, ◌≤◌, ◌<◌, length};
 ghost use Rattle.text.specs.Rules.{Wrote};
 ghost use Rattle.register_model.specs.Rules.{class_table};

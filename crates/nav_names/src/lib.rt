@@ -1,4 +1,6 @@
 // The names of operations and of status registers into lent room (the Rust's `mnemonic` and the names of `psr_info`).
+#![tactic(auto)]
+
 ghost use Rattle.std.specs.Prelude.{◌≡◌, false, ◌≤◌, ◌<◌};
 ghost use Rattle.text.specs.Rules.{Wrote};
 ghost use Rattle.register_model.specs.Rules.{class_table, class_of};

@@ -1,4 +1,6 @@
 // One command as thirteen numbers: those of the decoded record, those straight from the bytes, and back.
+#![tactic(auto)]
+
 ghost use Rattle.std.specs.Prelude.{◌≡◌, cond, ◌+◌, ◌/◌, ◌%◌, ◌≤◌, ◌<◌};
 ghost use Rattle.laws.specs.Firsts.{all};
 ghost use Rattle.nav_command.specs.Rules.{number_of, operation_of, group_of, operand_of, command_of};

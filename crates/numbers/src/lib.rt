@@ -1,4 +1,6 @@
 // The numbers of answers and of sessions, as the C interface hands them out; the Rust has its enums alone.
+#![tactic(auto)]
+
 ghost use Rattle.std.specs.Prelude.{◌≡◌, length};
 ghost use Rattle.nav_command.specs.Rules.{number_of};
 ghost use Rattle.nav_numbers.specs.Rules.{unknown_of};

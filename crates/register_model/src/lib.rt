@@ -1,4 +1,6 @@
 // The status registers: their classes, and which of them commands may write (the Rust's register_model.rs).
+#![tactic(auto)]
+
 ghost use Rattle.std.specs.Prelude.{◌≡◌};
 ghost use Rattle.register_model.specs.Rules.{class_table, class_named, class_at, writable, Counts};
 

@@ -1,4 +1,6 @@
 // The register banks: a fresh bank, the player's reads and writes, and what a Set command leaves (part of the Rust's vm.rs).
+#![tactic(auto)]
+
 ghost use Rattle.std.specs.Prelude.{◌≡◌, true, false, cond, ◌%◌, length, get_or, set};
 ghost use Rattle.register_model.specs.Rules.{class_table};
 ghost use Rattle.nav_command.specs.Rules.{operand_of};

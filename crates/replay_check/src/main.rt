@@ -1,4 +1,6 @@
 // Replays the disc check on the discs that compare/src/bin/answers_check.rs lists, and prints how many there are and how many differ.
+#![tactic(auto)]
+
 use libc::STDIN_FILENO;
 use replay_list::{Replayed, half};
 

@@ -1,4 +1,6 @@
 // Replays the commands that compare/src/bin/answers_commands.rs lists, and prints how many there are and how many differ.
+#![tactic(auto)]
+
 ghost use Rattle.std.specs.Prelude.{◌≡◌, ◌+◌, ◌≤◌, length};
 ghost use Rattle.replay_commands.specs.Onward.{Onward};
 

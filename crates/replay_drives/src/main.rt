@@ -1,4 +1,6 @@
 // Replays the runs that compare/src/bin/answers_drives.rs lists, and prints how many there are and how many numbers differ.
+#![tactic(auto)]
+
 ghost use Rattle.std.specs.Prelude.{◌<◌};
 
 use libc::STDIN_FILENO;

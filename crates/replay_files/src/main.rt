@@ -1,4 +1,6 @@
 // Replays the files that compare/src/bin/answers_files.rs lists, and prints how many there are and how many differ.
+#![tactic(auto)]
+
 ghost use Rattle.std.specs.Prelude.{◌≡◌, ◌≤◌, ◌<◌, length};
 ghost use Rattle.error.specs.declared.Verdict.TheVariants.{Fine};
 ghost use Rattle.movie_object.specs.Rules.{verdict_of};

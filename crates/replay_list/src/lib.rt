@@ -1,4 +1,6 @@
 // What the replays share: reading a list, comparing, and telling the end. It serves tests alone; the Rust has no such module.
+#![tactic(auto)]
+
 ghost use Rattle.std.specs.Prelude.{◌≡◌, ◌+◌, ◌<◌, get_or};
 ghost use Rattle.word.specs.Word.{add_low};
 ghost use Rattle.common.specs.Rules.{be2, be4};

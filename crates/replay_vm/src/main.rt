@@ -1,4 +1,6 @@
 // Replays the cases that compare/src/bin/answers_vm.rs lists, and prints how many there are and how many answers or registers differ.
+#![tactic(auto)]
+
 use libc::STDIN_FILENO;
 use registers::Registers;
 use replay_list::{Replayed, byte, half, number, onward};

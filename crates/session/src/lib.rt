@@ -1,4 +1,6 @@
 // What a drive is handed and hands back: the session, its budgets and its lent frames; no module of the Rust has it alone.
+#![tactic(auto)]
+
 ghost use Rattle.std.specs.Prelude.{◌≡◌, set};
 ghost use Rattle.session.specs.Rules.{fresh, defaults, object_frame, pushed_object, title_frame, pushed_title, buffers_verdict, budgets_verdict, entry_verdict, objects_live, titles_live, live_verdict, session_verdict};
 

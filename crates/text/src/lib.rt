@@ -1,4 +1,6 @@
 // Text into lent room, from a place on and cut off at its end; each function answers the place after. The Rust builds strings.
+#![tactic(auto)]
+
 ghost use Rattle.std.specs.Prelude.{◌≡◌, true, [], ◌∷◌, ◌+◌, ◌≤◌, ◌<◌, length};
 ghost use Rattle.std.proofs.lemmas.List.Edits.{sets};
 ghost use Rattle.text.specs.Rules.{glyph_of, numeral, blanks, right_in, place, Wrote};

@@ -1,4 +1,6 @@
 // Whether five bytes are UTF-8 (RFC 3629), by a scan that keeps what the next byte must be. It has no counterpart in the Rust, which calls `from_utf8`.
+#![tactic(auto)]
+
 ghost use Rattle.std.specs.Prelude.{◌≡◌, ◌+◌, ◌≤◌, length, take, drop};
 ghost use Rattle.utf8.specs.Rules.{between, lead_of, lead3, lead4, step_of, is_whole, is_utf8};
 ghost use Rattle.utf8.specs.Pieces.{all_ascii};

@@ -1,4 +1,6 @@
 // The command machine: one command, and a run of commands, on two lent banks of registers (the Rust's vm.rs).
+#![tactic(auto)]
+
 ghost use Rattle.std.specs.Prelude.{◌≡◌, ◌+◌, ◌*◌, ◌≤◌, ◌<◌, length};
 ghost use Rattle.register_model.specs.Rules.{class_table};
 ghost use Rattle.nav_command.specs.Rules.{command_of};

@@ -1,1 +1,2 @@
 // Computed examples of the register operations on words, in specs/; it has no code.
+#![tactic(auto)]
