@@ -247,7 +247,7 @@ module _ (s : List ℕ) (e : ℕ) where
       go false qa false qb true qz t qt = never (place_zero (eqb-true _ _ qz))
       go false qa false qb false qz false qt = never (place_past (eqb-false _ _ qa) (eqb-false _ _ qb) (eqb-false _ _ qz) (leb-false _ _ qt))
       go false qa false qb false qz true qt =
-          let n = eqb-false _ _ qz in
+          let n : e ≡ 0 → ⊥ = eqb-false _ _ qz in
           let h = leb-true e (title_count s) qt in
           omega (
             arith,

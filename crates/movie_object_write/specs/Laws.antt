@@ -6,7 +6,7 @@ use Prim.Native.Nat.{ℕ, zero, suc, ◌+◌, ◌*◌, ◌-◌, ◌%◌, ◌≤�
 use Rattle.std.proofs.Math.Nat.{add-sub_cancel_left}
 use Rattle.std.proofs.Math.ListN.{length, get_or, length-append, length-drop}
 use Rattle.std.proofs.Math.Seq.{length-take-le}
-use borrow.Author.Tests.{le-leb, leb-true, eq-eqb, eqb-true, not_false}
+use borrow.Author.Tests.{le-leb, leb-true, eq-eqb, eqb-true, not-false}
 use Rattle.laws.specs.Cases.{both}
 use Rattle.laws.specs.Firsts.{sum, sum_suc, sum_mono, all_below, below_tells, blocks, blocks_suc}
 use Rattle.laws.specs.Over.{over, over_next, store2}
@@ -108,7 +108,7 @@ module _ (flags counts commands : List ℕ) (room : ℕ) where
       let p2 = both_fine (refused_if (not (encodable flags counts commands)) NotEncodable) _ p1.1 in
       let p3 = room_tells (size_of counts) room p2.1 in
       record {
-        fields = encodable_tells flags counts commands (not_false _ (not_refused _ NotEncodable p2.0));
+        fields = encodable_tells flags counts commands (not-false _ (not_refused _ NotEncodable p2.0));
         short = p3.0;
         fits = p3.1;
       }

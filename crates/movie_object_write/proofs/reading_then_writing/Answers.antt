@@ -1,0 +1,5 @@
+use Rattle.movie_object_write.specs.RoundTrip.{reading_then_writing}
+use Rattle.movie_object_write.proofs.reading_then_writing.Goals as goal
+
+pub returns : goal.returns
+returns c = reading_then_writing
