@@ -19,7 +19,7 @@ pub const FIRST_PLAYBACK: u32 = 65536;
 
 pub const TOP_MENU: u32 = 65537;
 
-#[derive(Drop)]
+#[derive(Clone, Copy)]
 pub struct AppInfoBdmv {
     pub initial_output_mode_preference: u8,
     pub content_exist_flag: u8,

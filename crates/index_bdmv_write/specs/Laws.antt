@@ -9,7 +9,7 @@ use native.Mathlib.Omega.{arith}
 use Rattle.std.proofs.Math.Dec.{eqb}
 use Rattle.std.proofs.Math.ListN.{length-append, length-drop}
 use Rattle.std.proofs.Math.Seq.{length-take-le}
-use borrow.Author.Tests.{lt-ltb, ltb-true, le-leb, leb-true, eq-eqb, ne_eqb, eqb-true, not_false}
+use borrow.Author.Tests.{lt-ltb, ltb-true, le-leb, leb-true, eq-eqb, ne_eqb, eqb-true, not-false}
 use Rattle.laws.specs.Cases.{both, either_way}
 use Rattle.laws.specs.Firsts.{all, all_tells, blocks, blocks_suc}
 use Rattle.laws.specs.Over.{over, over_next, store4}
@@ -186,7 +186,7 @@ module _ (app : AppInfoBdmv) (r : Entries) (room : ℕ) where
       let p1 = both_fine (refused_if (not (encodable app r)) NotEncodable) _ e in
       let p2 = room_tells (size_of r) room p1.1 in
       record {
-        fields = encodable_tells r app (not_false _ (not_refused _ NotEncodable p1.0));
+        fields = encodable_tells r app (not-false _ (not_refused _ NotEncodable p1.0));
         short = p2.0;
         fits = p2.1;
       }

@@ -28,7 +28,7 @@ use Rattle.index_bdmv.specs.declared.Place.TheVariants.{At}
 use Rattle.index_bdmv.specs.Rules.{indx, kind_at, playback_at, name_at, app_info_verdict, app_info_of, entry_verdict, entries_verdict, start_of, stated_verdict, titles_verdict, indexes_verdict, verdict_of, title_count, place_of, object_at, index_of, parse_of, is_entry, entry_of, name_of}
 use Rattle.index_bdmv.specs.Laws as reader
 use Rattle.index_bdmv_write.specs.Rules.{Entries, kind_of, playback_of, object_of, name_given, titles_of, tail_bytes, entry_bytes, entry_of_record, app_bytes, head_bytes, special_bytes, title_bytes, size_of, file_of, entry_fits, write_verdict, spot, entry_number, entry_read, index_read, Holds, Unused, Made, WritingThenReading, ReadingThenWriting}
-use Rattle.index_bdmv_write.specs.Laws.{Kind, hdmv, bdj, AppFits, Lengths, Good, lengths_tell, lengths_made, fits_made, good_kind, Accepted, accepted, accepts, length_head_bytes, length_name, length_entry, length_special, length_titles}
+use Rattle.index_bdmv_write.specs.Laws.{Kind, hdmv, bdj, AppFits, Lengths, lengths_tell, lengths_made, fits_made, good_kind, Accepted, accepted, accepts, length_head_bytes, length_name, length_entry, length_special, length_titles}
 
 -- ---- what stands in a list from a place on
 

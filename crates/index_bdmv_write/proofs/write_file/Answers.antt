@@ -1,0 +1,24 @@
+-- The three calls that write, one after the other (`file-steps`). Assumes nothing.
+use mathlib.Core.Path.{refl}
+use native.Mathlib.Omega.{arith}
+use Rattle.common.specs.Laws.{left_is}
+use Rattle.index_bdmv_write.specs.Laws.{file_steps}
+use Rattle.index_bdmv_write.specs.Rules.{entries, size_of, titles_of}
+use Rattle.index_bdmv_write.proofs.write_file.Goals as goal
+
+-- The three calls that write, one after the other (`file-steps`). Assumes nothing.
+pub put_head-requires : goal.put_head-requires
+unfolding size_of
+put_head-requires c = (omega (arith, c.requires.fits), c.requires.fields.app_fits_tells)
+
+pub put_special-requires : goal.put_special-requires
+unfolding size_of titles_of
+put_special-requires c = (omega (arith, c.requires.fits, c.put_head.auto.out), c.requires.fields.good, refl)
+
+pub put_titles-requires : goal.put_titles-requires
+unfolding size_of titles_of
+put_titles-requires c = (omega (arith, c.requires.fits, c.put_head.auto.out, c.put_special.auto.out), c.requires.fields.good, refl)
+
+pub returns : goal.returns
+unfolding size_of titles_of
+returns c = let s = c in left_is (file_steps _ _ _ _ s.args.version s.args.app (entries s.args.kinds.now s.args.playbacks.now s.args.objects.now s.args.names.now) s.requires c.put_head.ensures c.put_special.ensures c.put_titles.ensures) refl

@@ -1,9 +1,0 @@
-use Rattle.index_bdmv_write.specs.RoundTrip.{writing_then_reading}
-use Rattle.index_bdmv_write.proofs.writing_then_reading.Statement.{statement}
-use Rattle.index_bdmv_write.proofs.writing_then_reading.Tie as tie
-
-returns : tie.Need-returns
-returns c = writing_then_reading
-
-pub writing-then-reading-spec : {M : Type 1} → statement M
-writing-then-reading-spec = tie.close (tie.spec returns)
