@@ -45,7 +45,7 @@ pub struct RunEnd {
 }
 
 // Where a call of the runner begins: in an object, or where the session stands.
-#[derive(Drop)]
+#[derive(Clone, Copy)]
 pub enum Start {
     Object(u32),
     Here,

@@ -4,7 +4,7 @@
 ghost use Rattle.std.specs.Prelude.{◌≡◌, ◌<◌};
 ghost use Rattle.nav_command.specs.Rules.{branch_of, compare_of, set_of, operation_of, group_of, operand_of, command_of};
 
-#[derive(Drop)]
+#[derive(Clone, Copy)]
 pub enum CommandGroup {
     Branch,
     Compare,
@@ -12,7 +12,7 @@ pub enum CommandGroup {
     Reserved(u8),
 }
 
-#[derive(Drop)]
+#[derive(Clone, Copy)]
 pub enum BranchOp {
     Nop,
     GoTo,
@@ -30,7 +30,7 @@ pub enum BranchOp {
     LinkMK,
 }
 
-#[derive(Drop)]
+#[derive(Clone, Copy)]
 pub enum CompareOp {
     Bc,
     Eq,
@@ -41,7 +41,7 @@ pub enum CompareOp {
     Lt,
 }
 
-#[derive(Drop)]
+#[derive(Clone, Copy)]
 pub enum SetOp {
     Move,
     Swap,
@@ -60,7 +60,7 @@ pub enum SetOp {
     ShiftRight,
 }
 
-#[derive(Drop)]
+#[derive(Clone, Copy)]
 pub enum SystemOp {
     SetStream,
     SetNvTimer,
@@ -76,7 +76,7 @@ pub enum SystemOp {
 }
 
 // What a command does. A code without a name is kept beside its sub-group.
-#[derive(Drop)]
+#[derive(Clone, Copy)]
 pub enum Operation {
     Branch(BranchOp),
     Compare(CompareOp),
@@ -85,21 +85,21 @@ pub enum Operation {
     Unknown { sub_grp: u8, selector: u8 },
 }
 
-#[derive(Drop)]
+#[derive(Clone, Copy)]
 pub enum RegisterBank {
     Gpr,
     Psr,
     PsrSecondary,
 }
 
-#[derive(Drop)]
+#[derive(Clone, Copy)]
 pub enum Operand {
     Absent,
     Immediate(u32),
     Register { bank: RegisterBank, index: u16 },
 }
 
-#[derive(Drop)]
+#[derive(Clone, Copy)]
 pub struct DecodedCommand {
     pub operand_count: u8,
     pub group: CommandGroup,

@@ -15,14 +15,14 @@ use mobj_runner::RunOutcome;
 use session::{Budgets, Session, TitleFrame};
 use vm::NavRequest;
 
-#[derive(Drop)]
+#[derive(Clone, Copy)]
 pub enum Option32 {
     None,
     Some(u32),
 }
 
 // A PlayList to play, and where to begin if not at its start.
-#[derive(Drop)]
+#[derive(Clone, Copy)]
 pub struct PlayRequest {
     pub playlist: u32,
     pub play_item: Option32,
@@ -66,7 +66,7 @@ pub struct DriveEnd {
 }
 
 // Where a call of the driver begins: in an entry, or where the session stands.
-#[derive(Drop)]
+#[derive(Clone, Copy)]
 pub enum Start {
     Entry(u32),
     Here,

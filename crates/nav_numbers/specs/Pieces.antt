@@ -4,7 +4,7 @@ use Rattle.laws.specs.Table.{listed}
 use Rattle.nav_command.specs.declared.CommandGroup.{CommandGroup}
 use Rattle.nav_command.specs.declared.CommandGroup.TheVariants as G
 use Rattle.nav_command.specs.declared.Operation.{Operation}
-use Rattle.nav_command.specs.declared.Operation.TheVariants.{Branch, Compare, Set}
+use Rattle.nav_command.specs.declared.Operation.TheVariants.{Compare}
 use Rattle.nav_command.specs.Rules.{compares, branch_rows, set_rows, number_of}
 use Rattle.nav_numbers.specs.declared.Place.{Place}
 use Rattle.nav_numbers.specs.declared.Row.{Row}

@@ -17,7 +17,7 @@ use session::{Budgets, Session};
 use vm::{NavRequest, Step};
 
 // A request: its operation's place on the sheet, two operands, and the code of an unknown system request.
-#[derive(Drop)]
+#[derive(Clone, Copy)]
 pub struct Request {
     pub op: u32,
     pub first: u32,

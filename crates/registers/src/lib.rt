@@ -29,7 +29,7 @@ pub enum Read {
 }
 
 // An operand as it stands in a command: whether it is there, whether it is a number of its own, and its word.
-#[derive(Drop)]
+#[derive(Clone, Copy)]
 pub struct Raw {
     pub there: bool,
     pub immediate: bool,

@@ -8,7 +8,7 @@ use common::number_at;
 use error::{Refusal, Verdict};
 
 // Where a drive stands: its entry, object and pc, how many frames of each kind are live, and whether it waits for a resume.
-#[derive(Drop)]
+#[derive(Clone, Copy)]
 pub struct Session {
     pub entry: u32,
     pub object: u32,
@@ -38,7 +38,7 @@ impl Session {
 }
 
 // How many steps each object, object transitions each title and title transitions each call may take.
-#[derive(Drop)]
+#[derive(Clone, Copy)]
 pub struct Budgets {
     pub steps: u32,
     pub objects: u32,

@@ -4,7 +4,7 @@ use Rattle.common.specs.Rules.{be4}
 use Rattle.nav_command.specs.Rules.{byte_at, count_of, sub_of, immediate1, immediate2}
 use Rattle.nav_command.specs.Rules as nav
 use Rattle.registers.specs.declared.Raw.{Raw}
-use Rattle.registers.specs.Rules.{Banks, value_of, set_of}
+use Rattle.registers.specs.Rules.{Banks, value_of}
 use Rattle.registers.specs.Pieces.{raw, meant}
 use Rattle.vm.specs.declared.Step.{Step}
 use Rattle.vm.specs.declared.Step.TheVariants.{Continue, Skipped, Halted, Branch}

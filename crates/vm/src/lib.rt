@@ -16,7 +16,7 @@ use nav_command::Operation;
 use registers::{Raw, Registers};
 
 // A transition that the machine hands to the player, with its operands' values.
-#[derive(Drop)]
+#[derive(Clone, Copy)]
 pub enum NavRequest {
     JumpObject(u32),
     JumpTitle(u32),
@@ -60,7 +60,7 @@ pub enum Answer {
 }
 
 // Where a machine goes on, and how many steps a run may take.
-#[derive(Drop)]
+#[derive(Clone, Copy)]
 pub struct HdmvVm {
     pub pc: usize,
     pub budget: u32,

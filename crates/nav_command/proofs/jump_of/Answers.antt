@@ -1,0 +1,13 @@
+use mathlib.Core.Path.{◌∙◌}
+use Rattle.nav_command.specs.declared.Operation.TheVariants.{Branch}
+use Rattle.nav_command.specs.Rules.{branch_of, gotos, jumps, plays}
+use Rattle.nav_command.proofs.Laws.{named_in, unnamed}
+use Rattle.nav_command.proofs.jump_of.Goals as goal
+
+pub returns-then-at-lt5 : goal.returns-then-at-lt5
+unfolding branch_of
+returns-then-at-lt5 c = named_in Branch gotos jumps plays _ _ _ c.if-at-lt5.true
+
+pub returns : goal.returns
+unfolding branch_of
+returns c = c.unknown.ensures ∙ unnamed Branch jumps _ _ c.if-at-lt5.false

@@ -1,0 +1,8 @@
+-- `put_unknown` writes its five parts one after the other. Assumes nothing.
+use Rattle.nav_list.specs.Rules.{unknown_text}
+use Rattle.text.specs.Laws.{then}
+use Rattle.nav_list.proofs.put_unknown.Goals as goal
+
+pub returns : goal.returns
+unfolding unknown_text
+returns c = then c.put-p.ensures (then c.put_decimal-q.ensures (then c.put-r.ensures (then c.put_hex-s.ensures c.put.ensures)))

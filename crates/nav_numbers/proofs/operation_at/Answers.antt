@@ -1,0 +1,23 @@
+-- The place of the code that the group picks, in the row that group and sub-group name (`operation-place`). Assumes nothing.
+use Prim.Native.Nat.{◌/◌, ◌%◌}
+use native.Mathlib.Omega.{arith}
+use Rattle.nav_numbers.proofs.Rows.{operation_place}
+use Rattle.nav_numbers.proofs.operation_at.Goals as goal
+
+pub returns : goal.returns
+returns c =
+    rw (
+      c.placed.ensures,
+      c.either-at.ensures,
+      c.wide-4.ensures,
+      c.either-after.ensures,
+      c.from_one-2.ensures,
+      c.from_one.ensures,
+      c.either-code.ensures,
+      c.wide-3.ensures,
+      c.either-other.ensures,
+      c.wide-2.ensures,
+      c.wide.ensures,
+      c.wide-sub.ensures,
+    )
+    (operation_place (c.args.low % 8) c.args.option c.args.compare c.args.set c.row_at-row.result (omega arith) (omega arith) (c.args.low / 8) c.row_at-row.ensures)
