@@ -1,5 +1,5 @@
 -- An object, and all objects of a file, as text (document 01, "Marked and run examples"; the Rust's `MovieObject::disassemble`). Assumes nothing.
-use Rattle.std.specs.Prelude.{cond, List, [], ◌∷◌, ◌++◌, ℕ, ◌+◌, ◌*◌, eqb}
+use Rattle.std.specs.Prelude.{cond, List, [], ◌∷◌, ◌++◌, ℕ, ◌*◌, eqb}
 use Rattle.laws.specs.Firsts.{blocks}
 use Rattle.text.specs.Rules.{bytes, numeral, right_in}
 use Rattle.error.specs.Rules.{first_of}
