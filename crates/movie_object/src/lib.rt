@@ -126,7 +126,7 @@ fn read_count(file: &[u8]) -> Half
     let Word::Value(length, body) = at.read_u32(file) else {
         return Half::Refused(Refusal::BadBody);
     };
-    let Moved::To(_) = Reader { pos: body.pos }.skip(file, length as usize) else {
+    let Moved::To(_) = body.skip(file, length as usize) else {
         return Half::Refused(Refusal::BadBody);
     };
     let Moved::To(count) = body.skip(file, 32) else {
