@@ -2,7 +2,7 @@
 use mathlib.Core.Path.{◌≡◌, refl, sym, ap, subst, ◌∙◌}
 use mathlib.Core.Bool.{Bool, true, false}
 use mathlib.Core.List.{List, [], ◌∷◌}
-use mathlib.Core.Logic.{◌⊎◌, ⊎_elim}
+use mathlib.Core.Logic.{⊎_elim}
 use Prim.Native.Nat.{ℕ, zero, suc, ◌+◌, ◌*◌, ◌/◌, ◌%◌, ◌^◌, ◌<◌, ◌≤◌}
 use native.Mathlib.Nat.{eq-or-lt_of_le}
 use native.Mathlib.Omega.{arith}
@@ -30,7 +30,6 @@ use Rattle.nav_command.specs.declared.Operation.{Operation}
 use Rattle.nav_command.specs.declared.Operation.TheVariants as O
 use Rattle.nav_command.specs.declared.RegisterBank.TheVariants.{Gpr, Psr, PsrSecondary}
 use Rattle.vm.specs.declared.Stepped.{Stepped}
-use Rattle.vm.specs.declared.Step.TheVariants.{Branch}
 use Rattle.vm.specs.Laws.{Sized}
 use Rattle.vm.specs.Rules.{Banks, banks, After, value_of, branch_of, exec_branch, holds_for, compare_of, exec_set, system_of, set_of, acted, exec_of, fetched, step_of, with, on, halted}
 use Rattle.disc_check.specs.declared.DiscCheck.TheVariants as C

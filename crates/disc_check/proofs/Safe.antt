@@ -22,13 +22,12 @@ use Rattle.session.specs.declared.Session.{Session}
 use Rattle.session.specs.declared.Budgets.{Budgets}
 use Rattle.session.specs.declared.ObjectFrame.{ObjectFrame}
 use Rattle.session.specs.declared.TitleFrame.{TitleFrame}
-use Rattle.session.specs.Rules.{session, object_frame, pushed_object, title_frame, pushed_title, object_room, title_room, buffers_verdict, budgets_verdict, entry_verdict, objects_live, titles_live, live_verdict, session_verdict}
+use Rattle.session.specs.Rules.{object_frame, pushed_object, title_frame, pushed_title, object_room, title_room, buffers_verdict, budgets_verdict, entry_verdict, objects_live, titles_live, live_verdict, session_verdict}
 use Rattle.session.specs.Laws.{objects_step, titles_step, buffers_banks}
 use Rattle.vm.specs.declared.NavRequest.{NavRequest}
 use Rattle.vm.specs.declared.NavRequest.TheVariants as Q
 use Rattle.vm.specs.declared.End.{End}
 use Rattle.vm.specs.declared.End.TheVariants as E
-use Rattle.vm.specs.declared.Step.TheVariants.{Branch}
 use Rattle.vm.specs.Laws.{Sized, run_sized, sized_step, run_asks}
 use Rattle.vm.specs.Rules.{Banks, run_of}
 use Rattle.mobj_runner.specs.declared.RunOutcome.{RunOutcome}

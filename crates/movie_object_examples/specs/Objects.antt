@@ -108,15 +108,14 @@ unfolding opened
 commands_by_number = refl
 
 -- A walk of the heads accepts the file and finds each object.
-placed : (k : ℕ) → k < count_of pair → get_or places k 0 ≡ place pair k
-unfolding opened
-placed zero h = refl
-placed (suc zero) h = refl
-placed (suc (suc k)) h = absurd (omega arith)
-
 pub heads_walked : Walked pair places Fine
 unfolding opened
 heads_walked = record { judged = refl; placed = λ e room. record { room = room; at = placed } }
+  where
+    placed : (k : ℕ) → k < count_of pair → get_or places k 0 ≡ place pair k
+    placed zero h = refl
+    placed (suc zero) h = refl
+    placed (suc (suc k)) h = absurd (omega arith)
 
 -- A file cut inside its last command is refused, and has no commands.
 pub commands_of_a_cut_file : part_of (take 93 one) 0 ≡ []
