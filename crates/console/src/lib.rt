@@ -1,64 +1,129 @@
 // What the programs share: files and numbers from the command line, and the words for refusals.
 #![tactic(auto)]
 
-ghost use Rattle.std.specs.Prelude.{◌≡◌, drop};
-ghost use Rattle.io.specs.Counts.{IsPrefixLen};
+ghost use Rattle.std.specs.Prelude.{◌≡◌, ◌≤◌, length, drop};
+ghost use Rattle.std.specs.Io.{ReadsAtMost};
 ghost use Rattle.console.specs.Rules.{begins_with, is_digit, number_of, no_number, goes_on_at, number_in};
 
 use error::Refusal;
-use libc::STDOUT_FILENO;
+use std::env::{Env, FillError};
+use std::fmt::InlineText;
+use std::fs::File;
+use std::io;
+use std::io::{Eprint, Print, Read};
+use std::rt::Files;
 
-pub fn say(words: &[u8]) {
-    io::write_all(STDOUT_FILENO, words);
+pub fn say(rt: &impl Print, words: &[u8]) -> io::Result<()> {
+    rt.write_all(words)
 }
 
 // The first n bytes of a room that has so many.
-pub fn say_first(n: usize, room: &[u8]) {
+pub fn say_first(rt: &impl Print, n: usize, room: &[u8]) -> io::Result<()> {
     if n <= room.len() {
-        say(&room[..n]);
+        say(rt, &room[..n])?;
     }
+    Ok(())
 }
 
-pub fn say_number(n: u32) {
-    io::print_decimal(STDOUT_FILENO, n as u64);
+pub fn say_number(rt: &impl Print, n: u32) -> io::Result<()> {
+    print!(rt; "{n}")
 }
 
 // The number and the words of a refusal, and a line end.
-pub fn say_refused(why: Refusal) {
-    say(b"refused ");
-    say_number(why.number() as u32);
-    match why {
-        Refusal::TooLong => say(b": the file is too long\n"),
-        Refusal::BadHeader => say(b": the file is too short, or of another kind\n"),
-        Refusal::BadBody => say(b": the file ends before what it states\n"),
-        Refusal::BadEntry => say(b": an entry of unknown type, or a name that is not UTF-8\n"),
-        Refusal::NoRoom => say(b": no room for the output\n"),
-        Refusal::BadBuffer => say(b": a buffer of a wrong length\n"),
-        Refusal::BadBudget => say(b": a budget over its limit\n"),
-        Refusal::BadSession => say(b": a session that does not fit the disc\n"),
-        Refusal::NotEncodable => say(b": what cannot be encoded\n"),
-        Refusal::NotAnEntry => say(b": no such entry\n"),
+pub fn say_refused(rt: &impl Print, why: Refusal) -> io::Result<()> {
+    let words = match &why {
+        Refusal::TooLong => "the file is too long",
+        Refusal::BadHeader => "the file is too short, or of another kind",
+        Refusal::BadBody => "the file ends before what it states",
+        Refusal::BadEntry => "an entry of unknown type, or a name that is not UTF-8",
+        Refusal::NoRoom => "no room for the output",
+        Refusal::BadBuffer => "a buffer of a wrong length",
+        Refusal::BadBudget => "a budget over its limit",
+        Refusal::BadSession => "a session that does not fit the disc",
+        Refusal::NotEncodable => "what cannot be encoded",
+        Refusal::NotAnEntry => "no such entry",
+    };
+    let number = why.number();
+    println!(rt; "refused {number}: {words}")
+}
+
+// How many words the program was started with, its own name among them.
+pub fn word_count(rt: &impl Env) -> usize {
+    for i in 0..usize::MAX {
+        if let Err(FillError::NotPresent) = rt.arg(i, &mut []) {
+            return i;
+        }
+    }
+    usize::MAX
+}
+
+// Reads one word of the command line to the start of the room. One that is missing or longer than the room counts as empty.
+pub fn read_word(rt: &impl Env, which: usize, room: &mut [u8]) -> usize
+    ensures { result ≤ length room.new }
+{
+    rt.arg(which, room).unwrap_or(0)
+}
+
+// Reads to the start of the room until it is full or the input ends.
+pub fn read_full(from: &mut impl Read, room: &mut [u8]) -> io::Result<usize>
+    ensures { ReadsAtMost result room.new }
+{
+    let mut done = 0;
+    while done < room.len() {
+        let n = from.read(&mut room[done..])?;
+        if n == 0 {
+            break;
+        }
+        done += n;
+    }
+    Ok(done)
+}
+
+// A name and the system's words for why it was not opened, without their number.
+fn say_unopened(rt: &impl Eprint, name: &str, error: io::Error) -> io::Result<()> {
+    let text = InlineText::<128>::of(error);
+    let text = text.as_str();
+    let words = match text.split_once(" (os error ") {
+        Some((words, _)) => words,
+        None => text,
+    };
+    eprintln!(rt; "{name}: {words}")
+}
+
+// Opens the file of a name for reading, or says why it cannot.
+fn open_named<R: Files + Eprint>(rt: &R, name: &[u8]) -> io::Result<Option<R::File>> {
+    let Ok(path) = str::from_utf8(name) else {
+        eprintln!(rt; "a file's name that is not UTF-8")?;
+        return Ok(None);
+    };
+    match File::open(rt, path) {
+        Ok(file) => Ok(Some(file)),
+        Err(error) => {
+            say_unopened(rt, path, error)?;
+            Ok(None)
+        }
     }
 }
 
 // Reads the file that an argument names to the start of the room. What leaves no byte of the room is not read: why is said.
-pub fn read_file(which: usize, room: &mut [u8]) -> usize
-    ensures { IsPrefixLen result room.new }
+pub fn read_file<R: Env + Files + Print + Eprint>(
+    rt: &R,
+    which: usize,
+    room: &mut [u8],
+) -> io::Result<usize>
+    ensures { ReadsAtMost result room.new }
 {
-    let mut name = io::buffer();
-    let length = os::arg(which, &mut name);
-    let fd = os::open_read(&name[..length]);
-    if fd < 0 {
-        os::fail(&name[..length]);
-        return io::count(isize::MAX, room);
-    }
-    let n = io::read_full(fd, room);
-    libc::close(fd);
+    let mut name = [0u8; 4096];
+    let length = read_word(rt, which, &mut name);
+    let Some(mut file) = open_named(rt, &name[..length])? else {
+        return Ok(room.len());
+    };
+    let n = read_full(&mut file, room)?;
     if n == room.len() {
-        say(&name[..length]);
-        say(b": longer than this program reads\n");
+        say(rt, &name[..length])?;
+        say(rt, b": longer than this program reads\n")?;
     }
-    n
+    Ok(n)
 }
 
 // A decimal number in a word: what it is, where it ends, and whether there is one that fits 32 bits.

@@ -7,79 +7,89 @@ ghost use Rattle.index_bdmv.specs.Rules.{verdict_of};
 
 use console::{say, say_number};
 use index_bdmv::{AppInfoBdmv, IndexBdmv, IndexEntry, IndexObjectType, Parsed};
-use libc::STDOUT_FILENO;
+use std::env::Env;
+use std::io;
+use std::io::{Eprint, Print};
+use std::rt::Files;
 
-fn main() {
-    if os::arg_count() != 2 {
-        say(b"usage: index INDEX.BDMV\n");
-        return;
+fn main(rt: HostRuntime) -> io::Result<()> {
+    if console::word_count(&rt) != 2 {
+        return say(&rt, b"usage: index INDEX.BDMV\n");
     }
     let mut room = [0u8; 1048577];
-    with_room(&mut room);
+    with_room(&rt, &mut room)
 }
 
-fn with_room(room: &mut [u8]) {
-    let n = console::read_file(1, room);
+fn with_room<R: Env + Files + Print + Eprint>(rt: &R, room: &mut [u8]) -> io::Result<()> {
+    let n = console::read_file(rt, 1, room)?;
     if n < room.len() {
-        print_index(&room[..n]);
+        print_index(rt, &room[..n])?;
     }
+    Ok(())
 }
 
-fn print_index(index: &[u8]) {
+fn print_index(rt: &impl Print, index: &[u8]) -> io::Result<()> {
     match IndexBdmv::parse(index) {
-        Parsed::Refused(why) => console::say_refused(why),
+        Parsed::Refused(why) => console::say_refused(rt, why),
         Parsed::Read(found) => {
             let app_info = found.app_info;
             let titles = found.titles as u32;
-            say(b"version 0x");
-            io::print_hex(STDOUT_FILENO, found.version as u64, 8);
-            say(b"\n");
-            print_app_info(app_info);
-            say(b"first playback: ");
-            print_entry(index, index_bdmv::FIRST_PLAYBACK);
-            say(b"top menu: ");
-            print_entry(index, index_bdmv::TOP_MENU);
-            print_titles(index, titles);
+            say(rt, b"version 0x")?;
+            let version = found.version;
+            print!(rt; "{version:08x}")?;
+            say(rt, b"\n")?;
+            print_app_info(rt, app_info)?;
+            say(rt, b"first playback: ")?;
+            print_entry(rt, index, index_bdmv::FIRST_PLAYBACK)?;
+            say(rt, b"top menu: ")?;
+            print_entry(rt, index, index_bdmv::TOP_MENU)?;
+            print_titles(rt, index, titles)
         }
     }
 }
 
-fn print_app_info(found: AppInfoBdmv) {
-    say(b"initial output mode preference ");
-    say_number(found.initial_output_mode_preference as u32);
-    say(b", content exist flag ");
-    say_number(found.content_exist_flag as u32);
-    say(b", video format ");
-    say_number(found.video_format as u32);
-    say(b", frame rate ");
-    say_number(found.frame_rate as u32);
-    say(b"\n");
+fn print_app_info(rt: &impl Print, found: AppInfoBdmv) -> io::Result<()> {
+    say(rt, b"initial output mode preference ")?;
+    say_number(rt, found.initial_output_mode_preference as u32)?;
+    say(rt, b", content exist flag ")?;
+    say_number(rt, found.content_exist_flag as u32)?;
+    say(rt, b", video format ")?;
+    say_number(rt, found.video_format as u32)?;
+    say(rt, b", frame rate ")?;
+    say_number(rt, found.frame_rate as u32)?;
+    say(rt, b"\n")
 }
 
-fn print_titles(index: &[u8], titles: u32)
+fn print_titles(rt: &impl Print, index: &[u8], titles: u32) -> io::Result<()>
     requires { verdict_of index.now ≡ Fine }
 {
     let mut k = 0;
     while k < titles {
         k += 1;
-        say(b"title ");
-        say_number(k);
-        say(b": ");
-        print_entry(index, k);
+        say(rt, b"title ")?;
+        say_number(rt, k)?;
+        say(rt, b": ")?;
+        print_entry(rt, index, k)?;
     }
+    Ok(())
 }
 
-fn print_entry(index: &[u8], entry: u32)
+fn print_entry(rt: &impl Print, index: &[u8], entry: u32) -> io::Result<()>
     requires { verdict_of index.now ≡ Fine }
 {
     match index_bdmv::entry_of(index, entry) {
-        IndexEntry::Refused(why) => console::say_refused(why),
-        IndexEntry::Nothing => say(b"nothing\n"),
-        IndexEntry::Object(object) => print_object(index, entry, object),
+        IndexEntry::Refused(why) => console::say_refused(rt, why),
+        IndexEntry::Nothing => say(rt, b"nothing\n"),
+        IndexEntry::Object(object) => print_object(rt, index, entry, object),
     }
 }
 
-fn print_object(index: &[u8], entry: u32, object: IndexObjectType)
+fn print_object(
+    rt: &impl Print,
+    index: &[u8],
+    entry: u32,
+    object: IndexObjectType,
+) -> io::Result<()>
     requires { verdict_of index.now ≡ Fine }
 {
     match object {
@@ -87,20 +97,20 @@ fn print_object(index: &[u8], entry: u32, object: IndexObjectType)
             playback_type,
             movie_object_id_ref,
         } => {
-            say(b"movie object ");
-            say_number(movie_object_id_ref as u32);
-            print_playback(playback_type);
+            say(rt, b"movie object ")?;
+            say_number(rt, movie_object_id_ref as u32)?;
+            print_playback(rt, playback_type)
         }
         IndexObjectType::BdJ { playback_type } => {
-            say(b"BD-J ");
-            say(index_bdmv::name_of(index, entry));
-            print_playback(playback_type);
+            say(rt, b"BD-J ")?;
+            say(rt, index_bdmv::name_of(index, entry))?;
+            print_playback(rt, playback_type)
         }
     }
 }
 
-fn print_playback(playback_type: u8) {
-    say(b", playback type ");
-    say_number(playback_type as u32);
-    say(b"\n");
+fn print_playback(rt: &impl Print, playback_type: u8) -> io::Result<()> {
+    say(rt, b", playback type ")?;
+    say_number(rt, playback_type as u32)?;
+    say(rt, b"\n")
 }

@@ -69,7 +69,7 @@ six_not_cut : six ≡ cut → ⊥
 six_not_cut e = let five : length six ≡ 5 = ap length e in absurd (omega arith)
 
 not_the_same_cut : Same six cut false
-not_the_same_cut = record { yes = λ e. absurd (true_not_false (sym e)); no = λ _ e. six_not_cut e }
+not_the_same_cut = record { yes = λ e. absurd (true_not_false (sym e)); no = λ _ e. let five : length six ≡ 5 = ap length e in absurd (omega arith) }
 
 -- Numbers against those that are listed next, four bytes each: the second differs.
 second_differs : compared (1 ∷ 9 ∷ []) (0 ∷ 0 ∷ 0 ∷ 1 ∷ 0 ∷ 0 ∷ 0 ∷ 2 ∷ []) (replayed 0 3) ≡ replayed 8 4

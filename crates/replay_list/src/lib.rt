@@ -8,11 +8,12 @@ ghost use Rattle.registers.specs.Rules.{banks};
 ghost use Rattle.replay_list.specs.Rules.{part_of, onward_by, differs_by, apart, Same, compared, bank_differences, set_one, set_all, registers_end, compared_banks, differences_of};
 
 use common::{byte_at, half_at, number_at, word_at};
-use libc::STDOUT_FILENO;
 use registers::Registers;
+use std::io;
+use std::io::Print;
 
 // Where the reading goes on, and how much differed so far.
-#[derive(Drop)]
+#[derive(Clone, Copy)]
 pub struct Replayed {
     pub next: u32,
     pub wrong: u32,
@@ -171,9 +172,9 @@ pub fn compare_registers(gpr: &[u32], psr: &[u32], input: &[u8], start: Replayed
 
 // Telling.
 
-pub fn print(number: u32, words: &[u8]) {
-    io::print_decimal(STDOUT_FILENO, number as u64);
-    io::write_all(STDOUT_FILENO, words);
+pub fn print(rt: &impl Print, number: u32, words: &[u8]) -> io::Result<()> {
+    print!(rt; "{number}")?;
+    rt.write_all(words)
 }
 
 // How much differed in a list of so many bytes; one that goes on or that is cut differs too.
@@ -184,6 +185,6 @@ fn differences(replayed: Replayed, got: usize) -> u32
     word::add(replayed.wrong, end)
 }
 
-pub fn tell(replayed: Replayed, got: usize) {
-    print(differences(replayed, got), b" differences\n");
+pub fn tell(rt: &impl Print, replayed: Replayed, got: usize) -> io::Result<()> {
+    print(rt, differences(replayed, got), b" differences\n")
 }
