@@ -28,7 +28,7 @@ pub enum Parsed {
 }
 
 // One object beside its commands: its three flags, and how many commands it has.
-#[derive(Drop)]
+#[derive(Clone, Copy)]
 pub struct MovieObject {
     pub resume_intention_flag: u8,
     pub menu_call_mask: u8,
