@@ -13,7 +13,7 @@ use error::{Refusal, Verdict};
 const LIMIT: usize = 16777216;
 
 // The position alone; the file is lent to each read.
-#[derive(Drop)]
+#[derive(Clone, Copy)]
 pub struct Reader {
     pub pos: usize,
 }

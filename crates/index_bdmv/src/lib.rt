@@ -186,7 +186,7 @@ fn open_indexes(index: &[u8]) -> Moved
     let Moved::To(at) = Reader::new().seek(index, 8) else {
         return Moved::Refused(Refusal::BadBody);
     };
-    let Word::Value(start, _) = Reader { pos: at.pos }.read_u32(index) else {
+    let Word::Value(start, _) = at.read_u32(index) else {
         return Moved::Refused(Refusal::BadBody);
     };
     let Moved::To(indexes) = at.seek(index, start as usize) else {
@@ -195,7 +195,7 @@ fn open_indexes(index: &[u8]) -> Moved
     let Word::Value(length, body) = indexes.read_u32(index) else {
         return Moved::Refused(Refusal::BadBody);
     };
-    let Moved::To(_) = Reader { pos: body.pos }.skip(index, length as usize) else {
+    let Moved::To(_) = body.skip(index, length as usize) else {
         return Moved::Refused(Refusal::BadBody);
     };
     Moved::To(body)

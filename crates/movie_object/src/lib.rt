@@ -28,7 +28,7 @@ pub enum Parsed {
 }
 
 // One object beside its commands: its three flags, and how many commands it has.
-#[derive(Drop)]
+#[derive(Clone, Copy)]
 pub struct MovieObject {
     pub resume_intention_flag: u8,
     pub menu_call_mask: u8,
@@ -126,7 +126,7 @@ fn read_count(file: &[u8]) -> Half
     let Word::Value(length, body) = at.read_u32(file) else {
         return Half::Refused(Refusal::BadBody);
     };
-    let Moved::To(_) = Reader { pos: body.pos }.skip(file, length as usize) else {
+    let Moved::To(_) = body.skip(file, length as usize) else {
         return Half::Refused(Refusal::BadBody);
     };
     let Moved::To(count) = body.skip(file, 32) else {

@@ -113,9 +113,8 @@ fn put_object(classes: &[u8], file: &[u8], head: usize, n: u16, out: &mut [u8], 
 {
     let object = movie_object::head_at(file, head);
     let commands = movie_object::part_at(file, head);
-    let lines = object.commands;
     let p = put_heading(out, at, n, object);
-    put_lines(classes, commands, lines, out, p)
+    put_lines(classes, commands, object.commands, out, p)
 }
 
 // The first line: the object's number, its flags and its number of commands.
@@ -221,8 +220,7 @@ fn object_length(classes: &[u8], file: &[u8], head: usize, n: u16) -> usize
 {
     let object = movie_object::head_at(file, head);
     let commands = movie_object::part_at(file, head);
-    let lines = object.commands;
-    heading_length(n, object) + lines_length(classes, commands, lines)
+    heading_length(n, object) + lines_length(classes, commands, object.commands)
 }
 
 fn heading_length(n: u16, object: MovieObject) -> usize

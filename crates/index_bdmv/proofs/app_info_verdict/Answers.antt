@@ -10,7 +10,6 @@ use Rattle.index_bdmv.specs.Laws.{app_short, app_few, app_past, app_fine}
 use Rattle.index_bdmv.proofs.app_info_verdict.Goals as goal
 use Rattle.index_bdmv.proofs.app_info_verdict.Goals.{In-To, In-Value}
 
--- Each read leads to the next one's position; each return is one law of the AppInfo. Assumes nothing.
 -- at the length, behind it, and its stated end
 start : (c : In-To) → Reached c.args.index.now 40 c.in-To.at
 start c = seek_to _ _ refl c.seek.ensures c.in-To.is

@@ -7,7 +7,6 @@ use Rattle.index_bdmv.specs.Rules.{start_of, stated_verdict, indexes_verdict}
 use Rattle.index_bdmv.proofs.indexes_verdict.Goals as goal
 use Rattle.index_bdmv.proofs.indexes_verdict.Goals.{In-To}
 
--- The tests in their order, each rewritten by what it found. Assumes nothing.
 -- behind the length of the Indexes
 opened : (c : In-To) → let index = c.args.index.now in (stated_verdict index (start_of index) ≡ Fine) × (c.in-To.special.pos ≡ start_of index + 4)
 opened c = moved_to _ _ c.open_indexes.ensures c.in-To.is

@@ -9,7 +9,6 @@ use Rattle.index_bdmv.specs.Rules.{place_of}
 use Rattle.index_bdmv.proofs.name_of.Goals as goal
 use Rattle.index_bdmv.proofs.name_of.Goals.{In-At}
 
--- Every entry of an accepted file lies within it (`place_in`). Assumes nothing.
 -- the entry's place, and that its twelve bytes are there
 found : (c : In-At) → place_of c.args.index.now c.args.entry ≡ At c.in-At.at
 found c = sym c.place_of-place.ensures ∙ c.in-At.is

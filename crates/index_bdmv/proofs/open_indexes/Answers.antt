@@ -11,7 +11,6 @@ use Rattle.index_bdmv.specs.Rules.{start_of}
 use Rattle.index_bdmv.proofs.open_indexes.Goals as goal
 use Rattle.index_bdmv.proofs.open_indexes.Goals.{In-To, In-To-seek, In-Value, In-Value-read_u32}
 
--- Each read leads to the next one's position; each return is one law of the stated end. Assumes nothing.
 -- at the number that says where they start, behind it, where they start, behind their length, and their stated end
 eight : (c : In-To) → Reached c.args.index.now 8 c.in-To.at
 eight c = seek_to _ _ refl c.seek.ensures c.in-To.is

@@ -8,7 +8,6 @@ use Rattle.index_bdmv.specs.Laws.{moved_fine, moved_bad, entry_past, entry_hdmv,
 use Rattle.index_bdmv.proofs.parse_object.Goals as goal
 use Rattle.index_bdmv.proofs.parse_object.Goals.{In-To, In-Value}
 
--- The byte of the type, then the rest of the twelve; each return is one law of an entry. Assumes nothing.
 -- behind the first byte, and behind all twelve
 first : (c : In-Value) → let a = c.args in let index = a.index.now in Took index (a.entry.pos + 1) (get_or index a.entry.pos 0) c.in-Value.first c.in-Value.rest
 first c = u8_read _ _ refl c.read_u8.ensures c.in-Value.is

@@ -1,4 +1,4 @@
--- The entries passed are fine; the first that is refused is the answer (`entries-more`, `entries-refused`). Assumes nothing.
+-- The entries passed are fine; the first that is refused is the answer (`entries_more`, `entries_refused`). Assumes nothing.
 use mathlib.Core.Path.{◌≡◌, refl, sym, ◌∙◌, ap}
 use Prim.Native.Nat.{◌+◌}
 use native.Mathlib.Omega.{arith}

@@ -7,7 +7,6 @@ use Rattle.index_bdmv.specs.Laws.{moved_to, moved_refused, titles_past, titles_r
 use Rattle.index_bdmv.proofs.titles_verdict.Goals as goal
 use Rattle.index_bdmv.proofs.titles_verdict.Goals.{In-Value}
 
--- The number, then the entries behind it. Assumes nothing.
 number : (c : In-Value) → let a = c.args in let index = a.index.now in Took index (a.at.pos + 2) (be2 index a.at.pos) c.in-Value.n c.in-Value.first
 number c = u16_read _ _ refl c.read_u16.ensures c.in-Value.is
 

@@ -1,4 +1,4 @@
--- The entries passed fit; the first that does not decides (`all_more`, `all-not`). Assumes nothing.
+-- The entries passed fit; the first that does not decides (`all_more`, `all_not`). Assumes nothing.
 use mathlib.Core.Path.{sym, ◌∙◌}
 use native.Mathlib.Omega.{arith}
 use Rattle.index_bdmv_write.specs.Rules.{name_given}

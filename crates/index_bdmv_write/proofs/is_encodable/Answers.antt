@@ -5,7 +5,6 @@ use Rattle.index_bdmv_write.specs.Rules.{entries, encodable}
 use Rattle.index_bdmv_write.proofs.is_encodable.Goals as goal
 use Rattle.index_bdmv_write.proofs.is_encodable.Goals.{Else-not-lengths_fit}
 
--- The tests in their order; the lengths agree before the entries are looked at. Assumes nothing.
 agree : (c : Else-not-lengths_fit) → Lengths (entries c.args.kinds.now c.args.playbacks.now c.args.objects.now c.args.names.now)
 agree c = lengths_tell _ (sym c.lengths_fit.ensures ∙ c.if-not-lengths_fit.false)
 

@@ -5,7 +5,6 @@ use Rattle.index_bdmv_write.specs.Laws.{length_name, good_playback, good_kind, k
 use Rattle.index_bdmv_write.specs.Rules.{entries, entry_of_record}
 use Rattle.index_bdmv_write.proofs.put_one.Goals as goal
 
--- An entry of a good record has a type and a playback type of two bits, and a name of five bytes. Assumes nothing.
 pub put_entry-requires : goal.put_entry-requires
 put_entry-requires c = let s = c in let e = entries c.args.kinds.now c.args.playbacks.now c.args.objects.now c.args.names.now in (c.requires.0, kind_small (good_kind e s.requires.2 _ s.requires.1), good_playback e s.requires.2 _ s.requires.1, ap length (name_part s.args.names.now s.args.k) ∙ length_name e s.requires.2.lengths.names _ s.requires.1)
 

@@ -1,4 +1,4 @@
--- The invariant: k titles are laid over the buffer. A turn is `titles-step`. Assumes nothing.
+-- The invariant: k titles are laid over the buffer. A turn is `titles_step`. Assumes nothing.
 use mathlib.Core.Path.{◌≡◌, refl, sym, ◌∙◌, ap}
 use native.Mathlib.Omega.{arith}
 use Rattle.index_bdmv_write.specs.Laws.{titles_step}

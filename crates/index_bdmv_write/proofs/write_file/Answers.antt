@@ -1,4 +1,4 @@
--- The three calls that write, one after the other (`file-steps`). Assumes nothing.
+-- The three calls that write, one after the other (`file_steps`). Assumes nothing.
 use mathlib.Core.Path.{refl}
 use native.Mathlib.Omega.{arith}
 use Rattle.common.specs.Laws.{left_is}
@@ -6,7 +6,6 @@ use Rattle.index_bdmv_write.specs.Laws.{file_steps}
 use Rattle.index_bdmv_write.specs.Rules.{entries, size_of, titles_of}
 use Rattle.index_bdmv_write.proofs.write_file.Goals as goal
 
--- The three calls that write, one after the other (`file-steps`). Assumes nothing.
 pub put_head-requires : goal.put_head-requires
 unfolding size_of
 put_head-requires c = (omega (arith, c.requires.fits), c.requires.fields.app_fits_tells)

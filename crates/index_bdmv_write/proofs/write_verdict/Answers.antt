@@ -6,7 +6,6 @@ use Rattle.index_bdmv_write.specs.Rules.{entries, write_verdict, size_of, titles
 use Rattle.index_bdmv_write.proofs.write_verdict.Goals as goal
 use Rattle.index_bdmv_write.proofs.write_verdict.Goals.{Then-is_encodable}
 
--- The tests in their order; the lengths are known once the fields fit. Assumes nothing.
 fields : (c : Then-is_encodable) → Encodable c.args.app (entries c.args.kinds.now c.args.playbacks.now c.args.objects.now c.args.names.now)
 fields c = encodable_tells _ _ (sym c.is_encodable.ensures ∙ c.if-is_encodable.true)
 

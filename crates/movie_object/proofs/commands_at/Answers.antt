@@ -1,4 +1,4 @@
--- The table holds the place (`Placed`), and the part there is the commands (`commands-from`). Assumes nothing.
+-- The table holds the place (`Placed`), and the part there is the commands (`commands_from`). Assumes nothing.
 use mathlib.Core.Path.{◌≡◌, sym, ◌∙◌}
 use Prim.Native.Nat.{◌<◌}
 use native.Mathlib.Omega.{arith}
@@ -8,7 +8,6 @@ use Rattle.movie_object.specs.Rules.{count_of, place}
 use Rattle.movie_object.proofs.commands_at.Goals as goal
 use Rattle.movie_object.proofs.commands_at.Goals.{Then-n-count_of}
 
--- The table holds the place (`Placed`), and the part there is the commands (`commands-from`). Assumes nothing.
 there : (c : Then-n-count_of) → c.args.n < count_of c.args.file.now
 there c = omega (arith, c.if-n-count_of.true, c.count_of.ensures)
 

@@ -7,7 +7,6 @@ use Rattle.movie_object.specs.Rules.{count_of}
 use Rattle.movie_object.proofs.commands_of.Goals as goal
 use Rattle.movie_object.proofs.commands_of.Goals.{Then-n-count_of}
 
--- As `commands_at`, with the place from a walk. Assumes nothing.
 there : (c : Then-n-count_of) → c.args.n < count_of c.args.file.now
 there c = omega (arith, c.if-n-count_of.true, c.count_of.ensures)
 

@@ -6,7 +6,6 @@ use Rattle.movie_object.specs.Rules.{count_of}
 use Rattle.movie_object.proofs.object_of.Goals as goal
 use Rattle.movie_object.proofs.object_of.Goals.{Then-n-count_of}
 
--- The head at the place that a walk finds, where the disc has the object. Assumes nothing.
 there : (c : Then-n-count_of) → c.args.n < count_of c.args.file.now
 there c = omega (arith, c.if-n-count_of.true, c.count_of.ensures)
 

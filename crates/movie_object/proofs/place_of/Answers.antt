@@ -1,4 +1,4 @@
--- The invariant: the place past k heads; each object passed lies within the file (`object-in`). Assumes nothing.
+-- The invariant: the place past k heads; each object passed lies within the file (`object_in`). Assumes nothing.
 use mathlib.Core.Path.{sym}
 use Prim.Native.Nat.{◌+◌, ◌*◌, ◌≤◌}
 use native.Mathlib.Omega.{arith}

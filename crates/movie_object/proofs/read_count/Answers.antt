@@ -10,7 +10,6 @@ use Rattle.movie_object.specs.Laws.{count_read_is, count_stated, count_short}
 use Rattle.movie_object.proofs.read_count.Goals as goal
 use Rattle.movie_object.proofs.read_count.Goals.{In-To, In-Value}
 
--- Each read leads to the next one's position; where one passes the end there is no count. Assumes nothing.
 -- at the length, behind it, and that the stated end lies within the file
 start : (c : In-To) → Reached c.args.file.now 40 c.in-To.at
 start c = seek_to _ _ refl c.seek.ensures c.in-To.is

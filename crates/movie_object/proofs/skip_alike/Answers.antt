@@ -1,4 +1,4 @@
--- The same invariant: an object whose number of commands gives the size at hand ends that much further (`next-from`). Assumes nothing.
+-- The same invariant: an object whose number of commands gives the size at hand ends that much further (`next_from`). Assumes nothing.
 use mathlib.Core.Path.{refl, ap, ◌∙◌}
 use Prim.Native.Nat.{◌+◌}
 use native.Mathlib.Omega.{arith}

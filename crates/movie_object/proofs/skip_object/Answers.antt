@@ -1,4 +1,4 @@
--- The three reads of an object's head lead to the next one (`next-from`); where one passes the end, so does the next object. Assumes nothing.
+-- The three reads of an object's head lead to the next one (`next_from`); where one passes the end, so does the next object. Assumes nothing.
 use mathlib.Core.Path.{refl, sym, ◌∙◌, ap}
 use Prim.Native.Nat.{◌+◌}
 use native.Mathlib.Omega.{arith}
@@ -8,7 +8,6 @@ use Rattle.movie_object.specs.Laws.{next_from, next_past}
 use Rattle.movie_object.proofs.skip_object.Goals as goal
 use Rattle.movie_object.proofs.skip_object.Goals.{In-To, In-Value}
 
--- The three reads of an object's head lead to the next one (`next-from`); where one passes the end, so does the next object. Assumes nothing.
 -- behind the flags, and behind the number of commands
 flags : (c : In-To) → let a = c.args in Reached a.file.now (a.head.pos + 2) c.in-To.at
 flags c = seek_to _ _ refl c.skip.ensures c.in-To.is

@@ -1,4 +1,4 @@
--- The invariant: the place past k heads, and the table as far as it reaches. A turn is `walk-on`, and what `skip_alike` passes. Assumes nothing.
+-- The invariant: the place past k heads, and the table as far as it reaches. A turn is `walk_on`, and what `skip_alike` passes. Assumes nothing.
 use mathlib.Core.Path.{refl, sym, ◌∙◌}
 use Prim.Native.Nat.{◌+◌}
 use native.Mathlib.Omega.{arith}

@@ -8,7 +8,6 @@ use Rattle.movie_object.specs.Rules.{mobj}
 use Rattle.movie_object.proofs.walk_places.Goals as goal
 use Rattle.movie_object.proofs.walk_places.Goals.{In-Fine, In-Value}
 
--- The header, then the count, then the walk over the heads decides. Assumes nothing.
 -- past the header's test, and past the count
 head : (c : In-Fine) → header_of mobj c.args.file.now ≡ Fine
 head c = sym c.header-head.ensures ∙ c.in-Fine.is

@@ -1,4 +1,4 @@
--- The text is no longer than its bound (`file-short`), and the tests are on what the room has left (`left-test`). Assumes nothing.
+-- The text is no longer than its bound (`file_short`), and the tests are on what the room has left (`left_test`). Assumes nothing.
 use mathlib.Core.Path.{sym}
 use Prim.Native.Nat.{◌+◌}
 use native.Mathlib.Omega.{arith}

@@ -1,4 +1,4 @@
--- The invariant: where object n stands, and how long the text before it is. It is short (`objects-short`). Assumes nothing.
+-- The invariant: where object n stands, and how long the text before it is. It is short (`objects_short`). Assumes nothing.
 use mathlib.Core.Path.{◌≡◌, sym, ap, ◌∙◌}
 use Prim.Native.Nat.{ℕ, ◌+◌, ◌*◌, ◌≤◌, ◌<◌}
 use native.Mathlib.Omega.{arith}

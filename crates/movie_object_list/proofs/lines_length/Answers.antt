@@ -1,4 +1,4 @@
--- The invariant: how long the first i lines are, which is at most 118 for each (`lines-short`). Assumes nothing.
+-- The invariant: how long the first i lines are, which is at most 118 for each (`lines_short`). Assumes nothing.
 use mathlib.Core.Path.{◌≡◌}
 use Prim.Native.Nat.{◌+◌, ◌*◌, ◌≤◌}
 use native.Mathlib.Omega.{arith}

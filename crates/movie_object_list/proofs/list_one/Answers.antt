@@ -11,7 +11,6 @@ use Rattle.nav_list.specs.Rules.{list_of}
 use Rattle.movie_object_list.proofs.list_one.Goals as goal
 use Rattle.movie_object_list.proofs.list_one.Goals.{Then-n-count_of}
 
--- The place that a walk finds is where the object stands (`text_of`). Assumes nothing.
 there : (c : Then-n-count_of) → c.args.n < count_of c.args.file.now
 there c = omega (arith, c.if-n-count_of.true, c.count_of.ensures)
 

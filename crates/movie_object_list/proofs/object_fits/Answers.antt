@@ -1,4 +1,4 @@
--- No text is longer than its bound (`object-short`), and the tests are on what the room has left (`left-test`). Assumes nothing.
+-- No text is longer than its bound (`object_short`), and the tests are on what the room has left (`left_test`). Assumes nothing.
 use mathlib.Core.Path.{sym}
 use Prim.Native.Nat.{◌+◌}
 use native.Mathlib.Omega.{arith}

@@ -1,4 +1,4 @@
--- The heading and the lines are the whole text, which is short (`object-short`). Assumes nothing.
+-- The heading and the lines are the whole text, which is short (`object_short`). Assumes nothing.
 use mathlib.Core.Path.{◌≡◌, sym}
 use Prim.Native.Nat.{◌+◌}
 use native.Mathlib.Omega.{arith}
@@ -10,7 +10,6 @@ use Rattle.movie_object_list.proofs.Lengths.{object_short}
 use Rattle.movie_object_list.proofs.object_length.Goals as goal
 use Rattle.movie_object_list.proofs.object_length.Goals.{After-lines_length}
 
--- The heading and the lines are the whole text, which is short (`object-short`). Assumes nothing.
 whole : (c : After-lines_length) → c.heading_length.result + c.lines_length.result ≡ length (text_at c.args.file.now c.args.head c.args.n)
 whole c =
     rw (sym c.head_at-object.ensures, sym c.part_at-commands.ensures)

@@ -1,4 +1,4 @@
--- The invariant: where object n stands, and that the text before it is written. A turn is `objects-step`. Assumes nothing.
+-- The invariant: where object n stands, and that the text before it is written. A turn is `objects_step`. Assumes nothing.
 use mathlib.Core.Path.{◌≡◌, refl, sym, ◌∙◌, subst}
 use Prim.Native.Nat.{ℕ, ◌+◌, ◌*◌, ◌≤◌, ◌<◌}
 use native.Mathlib.Omega.{arith}

@@ -1,4 +1,4 @@
--- The invariant: k objects are laid over the buffer. A turn is `objects-step`. Assumes nothing.
+-- The invariant: k objects are laid over the buffer. A turn is `objects_step`. Assumes nothing.
 use mathlib.Core.Path.{◌≡◌, refl, sym, ◌∙◌, ap}
 use Prim.Native.Nat.{ℕ, ◌+◌, ◌*◌, ◌-◌, ◌<◌}
 use native.Mathlib.Omega.{arith}

@@ -1,4 +1,4 @@
--- The two calls that write, one after the other (`file-steps`). Assumes nothing.
+-- The two calls that write, one after the other (`file_steps`). Assumes nothing.
 use mathlib.Core.Path.{◌≡◌, ◌∙◌, ap}
 use Prim.Native.Nat.{ℕ, ◌+◌, ◌*◌, ◌-◌}
 use native.Mathlib.Omega.{arith}
@@ -10,7 +10,6 @@ use Rattle.movie_object_write.specs.Rules.{size_of, head_bytes}
 use Rattle.movie_object_write.proofs.write_file.Goals as goal
 use Rattle.movie_object_write.proofs.write_file.Goals.{Start}
 
--- The two calls that write, one after the other (`file-steps`). Assumes nothing.
 size : (c : Start) → 78 + 4 * length c.args.counts.now + length c.args.commands.now ≡ size_of c.args.counts.now
 size c = size_is _ _ _ c.requires.fields
 

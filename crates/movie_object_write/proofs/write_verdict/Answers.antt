@@ -9,7 +9,6 @@ use Rattle.movie_object_write.specs.Rules.{write_verdict, size_of}
 use Rattle.movie_object_write.proofs.write_verdict.Goals as goal
 use Rattle.movie_object_write.proofs.write_verdict.Goals.{Then-is_encodable}
 
--- The tests in their order; the size is known once the fields fit (`size_is`). Assumes nothing.
 fields : (c : Then-is_encodable) → let a = c.args in Encodable a.flags.now a.counts.now a.commands.now
 fields c = encodable_tells _ _ _ (sym c.is_encodable.ensures ∙ c.if-is_encodable.true)
 

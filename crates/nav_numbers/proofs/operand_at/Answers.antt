@@ -1,4 +1,4 @@
--- Kind and value, from the word or 0 (`operand-given`). Assumes nothing.
+-- Kind and value, from the word or 0 (`operand_given`). Assumes nothing.
 use Rattle.nav_numbers.proofs.Rows.{operand_given}
 use Rattle.nav_numbers.proofs.operand_at.Goals as goal
 

@@ -1,4 +1,4 @@
--- The place of the code that the group picks, in the row that group and sub-group name (`operation-place`). Assumes nothing.
+-- The place of the code that the group picks, in the row that group and sub-group name (`operation_place`). Assumes nothing.
 use Prim.Native.Nat.{◌/◌, ◌%◌}
 use native.Mathlib.Omega.{arith}
 use Rattle.nav_numbers.proofs.Rows.{operation_place}

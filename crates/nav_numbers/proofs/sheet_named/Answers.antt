@@ -1,4 +1,4 @@
--- The sheet part by part (`sheet-branch` to `sheet-system`), and what it lacks. Assumes nothing.
+-- The sheet part by part (`sheet_branch` to `sheet_system`), and what it lacks. Assumes nothing.
 use Rattle.nav_numbers.proofs.Laws.{sheet_none, sheet_branch, sheet_compare, sheet_set, sheet_system, sheet_past}
 use Rattle.nav_numbers.proofs.sheet_named.Goals as goal
 
