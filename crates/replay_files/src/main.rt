@@ -171,8 +171,8 @@ fn gather_at(
     while n < count {
         let head = places[n as usize] as usize;
         let object = movie_object::head_at(file, head);
-        put_count(counts, n as usize, object.commands as u32);
         put_flags(flags, 3 * (n as usize), object);
+        put_count(counts, n as usize, object.commands as u32);
         used = text::put(commands, used, movie_object::part_at(file, head));
         n += 1;
     }
@@ -222,9 +222,8 @@ fn put_asked_object(out: &mut [u8], from: usize, file: &[u8], n: u32) -> usize {
         }
         Object::Found(object) => {
             let a = text::put_byte(out, from, 0);
-            let count = object.commands;
             let b = put_flags(out, a, object);
-            let c = put_half(out, b, count);
+            let c = put_half(out, b, object.commands);
             put_measured(out, c, commands)
         }
     }
