@@ -1,8 +1,9 @@
 // Replays the disc check on the discs that compare/src/bin/answers_check.rs lists, and prints how many there are and how many differ.
 #![tactic(auto)]
 
-use libc::STDIN_FILENO;
 use replay_list::{Replayed, half};
+use std::io;
+use std::io::{Input, Print};
 
 fn replay(input: &[u8], so_far: Replayed) -> Replayed {
     let indexed = half(input, so_far.next, 0);
@@ -30,15 +31,15 @@ fn replay_all(input: &[u8], discs: u32) -> Replayed {
     so_far
 }
 
-fn replay_read(input: &mut [u8]) {
-    let got = io::read_full(STDIN_FILENO, input);
+fn replay_read<R: Input + Print>(rt: &R, input: &mut [u8]) -> io::Result<()> {
+    let got = console::read_full(&mut rt.reader(), input)?;
     let discs = half(input, 0, 0);
     let replayed = replay_all(input, discs);
-    replay_list::print(discs, b" discs, ");
-    replay_list::tell(replayed, got);
+    replay_list::print(rt, discs, b" discs, ")?;
+    replay_list::tell(rt, replayed, got)
 }
 
-fn main() {
+fn main(rt: HostRuntime) -> io::Result<()> {
     let mut input = [0u8; 300000];
-    replay_read(&mut input);
+    replay_read(&rt, &mut input)
 }

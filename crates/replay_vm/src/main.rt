@@ -1,9 +1,10 @@
 // Replays the cases that compare/src/bin/answers_vm.rs lists, and prints how many there are and how many answers or registers differ.
 #![tactic(auto)]
 
-use libc::STDIN_FILENO;
 use registers::Registers;
 use replay_list::{Replayed, byte, half, number, onward};
+use std::io;
+use std::io::{Input, Print};
 use vm::{Answer, HdmvVm};
 
 // Where the machine stands after a call, and how much differed.
@@ -102,15 +103,15 @@ fn replay_all(input: &[u8], cases: u32) -> Replayed {
     so_far
 }
 
-fn replay_read(input: &mut [u8]) {
-    let got = io::read_full(STDIN_FILENO, input);
+fn replay_read<R: Input + Print>(rt: &R, input: &mut [u8]) -> io::Result<()> {
+    let got = console::read_full(&mut rt.reader(), input)?;
     let cases = half(input, 0, 0);
     let replayed = replay_all(input, cases);
-    replay_list::print(cases, b" cases, ");
-    replay_list::tell(replayed, got);
+    replay_list::print(rt, cases, b" cases, ")?;
+    replay_list::tell(rt, replayed, got)
 }
 
-fn main() {
+fn main(rt: HostRuntime) -> io::Result<()> {
     let mut input = [0u8; 400000];
-    replay_read(&mut input);
+    replay_read(&rt, &mut input)
 }
