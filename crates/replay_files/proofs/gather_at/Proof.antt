@@ -1,4 +1,4 @@
--- The table holds where each object stands, and each lies within the file (`object-in`). Assumes nothing.
+-- The table holds where each object stands, and each lies within the file (`object_in`). Assumes nothing.
 use Prim.Native.Nat.{◌≤◌, ◌<◌, ◌-◌}
 use Rattle.movie_object.specs.Laws.{object_in}
 use Rattle.movie_object.specs.Rules.{count_of}
