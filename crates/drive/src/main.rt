@@ -7,6 +7,10 @@ use nav_driver::{DriveAnswer, DriveEnd, DriveOutcome, Option32, PlayRequest};
 use numbers::Request;
 use registers::Registers;
 use session::{Budgets, Session};
+use std::env::Env;
+use std::io;
+use std::io::{Eprint, Print};
+use std::rt::Files;
 
 // What the command line asks for, and whether all of it was understood.
 #[derive(Drop)]
@@ -19,82 +23,112 @@ struct Options {
     understood: bool,
 }
 
-// How a call ended.
+// How a call ended: refused, with whether it was for one of the two files, or with what it left.
 #[derive(Drop)]
 enum Ended {
-    Refused(Refusal),
+    Refused(bool),
     With(DriveEnd),
 }
 
-fn main() {
-    if os::arg_count() < 3 {
-        print_usage();
-        return;
+fn main(rt: HostRuntime) -> io::Result<()> {
+    if console::word_count(&rt) < 3 {
+        return print_usage(&rt);
     }
     let mut index = [0u8; 1048577];
-    with_index(&mut index);
+    with_index(&rt, &mut index)
 }
 
-fn print_usage() {
-    say(b"usage: drive INDEX.BDMV MOVIEOBJECT.BDMV [OPTION..]\n");
-    say(b"  entry=N: title N, 65536 first playback (as without it), 65537 top menu\n");
-    say(b"  steps=N objects=N titles=N: the budgets, at most 1000000, 100000 and 10000\n");
-    say(b"  resumes=N: how many plays and requests are answered, 100 without it\n");
-    say(b"  rN=V sets general register N, pN=V status register N\n");
+fn print_usage(rt: &impl Print) -> io::Result<()> {
+    say(rt, b"usage: drive INDEX.BDMV MOVIEOBJECT.BDMV [OPTION..]\n")?;
+    say(
+        rt,
+        b"  entry=N: title N, 65536 first playback (as without it), 65537 top menu\n",
+    )?;
+    say(
+        rt,
+        b"  steps=N objects=N titles=N: the budgets, at most 1000000, 100000 and 10000\n",
+    )?;
+    say(
+        rt,
+        b"  resumes=N: how many plays and requests are answered, 100 without it\n",
+    )?;
+    say(
+        rt,
+        b"  rN=V sets general register N, pN=V status register N\n",
+    )
 }
 
 // Room for the files, the registers and the frames.
 
-fn with_index(index: &mut [u8]) {
-    let n = console::read_file(1, index);
+fn with_index<R: Env + Files + Print + Eprint>(rt: &R, index: &mut [u8]) -> io::Result<()> {
+    let n = console::read_file(rt, 1, index)?;
     if n < index.len() {
-        with_index_read(&index[..n]);
+        with_index_read(rt, &index[..n])?;
     }
+    Ok(())
 }
 
-fn with_index_read(index: &[u8]) {
+fn with_index_read<R: Env + Files + Print + Eprint>(rt: &R, index: &[u8]) -> io::Result<()> {
     let mut file = [0u8; 1048577];
-    with_file(index, &mut file);
+    with_file(rt, index, &mut file)
 }
 
-fn with_file(index: &[u8], file: &mut [u8]) {
-    let n = console::read_file(2, file);
+fn with_file<R: Env + Files + Print + Eprint>(
+    rt: &R,
+    index: &[u8],
+    file: &mut [u8],
+) -> io::Result<()> {
+    let n = console::read_file(rt, 2, file)?;
     if n < file.len() {
-        with_files_read(index, &file[..n]);
+        with_files_read(rt, index, &file[..n])?;
     }
+    Ok(())
 }
 
-fn with_files_read(index: &[u8], file: &[u8]) {
+fn with_files_read(rt: &(impl Env + Print), index: &[u8], file: &[u8]) -> io::Result<()> {
     let mut gpr = [0u32; 4096];
     let mut psr = [0u32; 128];
-    with_registers(index, file, &mut gpr, &mut psr);
+    with_registers(rt, index, file, &mut gpr, &mut psr)
 }
 
-fn with_registers(index: &[u8], file: &[u8], gpr: &mut [u32], psr: &mut [u32]) {
-    let options = read_options(gpr, psr);
+fn with_registers(
+    rt: &(impl Env + Print),
+    index: &[u8],
+    file: &[u8],
+    gpr: &mut [u32],
+    psr: &mut [u32],
+) -> io::Result<()> {
+    let options = read_options(rt, gpr, psr);
     let understood = options.understood;
     if understood {
-        with_options(index, file, gpr, psr, options);
-        return;
+        return with_options(rt, index, file, gpr, psr, options);
     }
-    print_usage();
+    print_usage(rt)
 }
 
-fn with_options(index: &[u8], file: &[u8], gpr: &mut [u32], psr: &mut [u32], options: Options) {
+fn with_options(
+    rt: &impl Print,
+    index: &[u8],
+    file: &[u8],
+    gpr: &mut [u32],
+    psr: &mut [u32],
+    options: Options,
+) -> io::Result<()> {
     let mut frames = [0u32; 131072];
-    with_frames(index, file, gpr, psr, &mut frames, options);
+    with_frames(rt, index, file, gpr, psr, &mut frames, options)
 }
 
 fn with_frames(
+    rt: &impl Print,
     index: &[u8],
     file: &[u8],
     gpr: &mut [u32],
     psr: &mut [u32],
     frames: &mut [u32],
     options: Options,
-) {
+) -> io::Result<()> {
     let mut titles = [0u32; 196608];
-    drive(index, file, gpr, psr, frames, &mut titles, options);
+    drive(rt, index, file, gpr, psr, frames, &mut titles, options)
 }
 
 // The command line.
@@ -200,14 +234,20 @@ fn take_option(setting: Setting, gpr: &mut [u32], psr: &mut [u32], options: Opti
     taken
 }
 
-fn read_option(k: usize, gpr: &mut [u32], psr: &mut [u32], options: Options) -> Options {
+fn read_option(
+    rt: &impl Env,
+    k: usize,
+    gpr: &mut [u32],
+    psr: &mut [u32],
+    options: Options,
+) -> Options {
     let mut word = [0u8; 64];
-    let n = os::arg(k, &mut word);
+    let n = console::read_word(rt, k, &mut word);
     let setting = option_of(&word[..n]);
     take_option(setting, gpr, psr, options)
 }
 
-fn read_options(gpr: &mut [u32], psr: &mut [u32]) -> Options {
+fn read_options(rt: &impl Env, gpr: &mut [u32], psr: &mut [u32]) -> Options {
     let mut options = Options {
         entry: Session::FIRST_PLAYBACK,
         steps: Budgets::STEPS,
@@ -216,10 +256,10 @@ fn read_options(gpr: &mut [u32], psr: &mut [u32]) -> Options {
         resumes: 100,
         understood: true,
     };
-    let count = os::arg_count();
+    let count = console::word_count(rt);
     let mut k = 3;
     while k < count {
-        options = read_option(k, gpr, psr, options);
+        options = read_option(rt, k, gpr, psr, options);
         k += 1;
     }
     options
@@ -228,6 +268,7 @@ fn read_options(gpr: &mut [u32], psr: &mut [u32]) -> Options {
 // The calls.
 
 fn drive(
+    rt: &impl Print,
     index: &[u8],
     file: &[u8],
     gpr: &mut [u32],
@@ -235,7 +276,7 @@ fn drive(
     frames: &mut [u32],
     titles: &mut [u32],
     options: Options,
-) {
+) -> io::Result<()> {
     let b = Budgets {
         steps: options.steps,
         objects: options.objects,
@@ -243,23 +284,24 @@ fn drive(
     };
     let entry = options.entry;
     let s = Session::new();
-    say(b"run from ");
-    print_entry(entry);
+    say(rt, b"run from ")?;
+    print_entry(rt, entry)?;
     let answer = nav_driver::run(gpr, psr, frames, titles, index, file, s, entry, b);
-    let ended = print_answer(answer);
+    let ended = print_answer(rt, answer)?;
     let resumes = options.resumes;
     match ended {
-        Ended::Refused(why) => print_refused(why, index),
+        Ended::Refused(of_file) => print_refused(rt, of_file, index),
         Ended::With(end) => {
-            let last = resume_all(index, file, gpr, psr, frames, titles, end, b, resumes);
-            say(b"ended: ");
-            print_last(last);
+            let last = resume_all(rt, index, file, gpr, psr, frames, titles, end, b, resumes)?;
+            say(rt, b"ended: ")?;
+            print_last(rt, last)
         }
     }
 }
 
 // Answers every play and request, up to a number of them.
 fn resume_all(
+    rt: &impl Print,
     index: &[u8],
     file: &[u8],
     gpr: &mut [u32],
@@ -269,7 +311,7 @@ fn resume_all(
     end: DriveEnd,
     b: Budgets,
     resumes: u32,
-) -> DriveEnd {
+) -> io::Result<DriveEnd> {
     let mut last = end;
     let mut k = 0;
     while k < resumes {
@@ -277,137 +319,143 @@ fn resume_all(
         let waits = s.pending;
         if waits {
             k += 1;
-            say(b"resume ");
-            say_number(k);
+            say(rt, b"resume ")?;
+            say_number(rt, k)?;
             let answer = nav_driver::resume(gpr, psr, frames, titles, index, file, s, b);
-            let ended = print_answer(answer);
+            let ended = print_answer(rt, answer)?;
             match ended {
                 Ended::Refused(_) => {
-                    return last;
+                    return Ok(last);
                 }
                 Ended::With(next) => {
                     last = next;
                 }
             }
         } else {
-            return last;
+            return Ok(last);
         }
     }
-    last
+    Ok(last)
 }
 
 // What the calls answer.
 
-fn print_entry(entry: u32) {
+fn print_entry(rt: &impl Print, entry: u32) -> io::Result<()> {
     if entry == Session::FIRST_PLAYBACK {
-        say(b"first playback");
-        return;
+        return say(rt, b"first playback");
     }
     if entry == Session::TOP_MENU {
-        say(b"top menu");
-        return;
+        return say(rt, b"top menu");
     }
-    say(b"title ");
-    say_number(entry);
+    say(rt, b"title ")?;
+    say_number(rt, entry)
 }
 
 // One line for a call: its outcome, and the object and pc where it stands.
-fn print_answer(answer: DriveAnswer) -> Ended {
-    say(b": ");
+fn print_answer(rt: &impl Print, answer: DriveAnswer) -> io::Result<Ended> {
+    say(rt, b": ")?;
     match answer {
         DriveAnswer::Refused(why) => {
-            console::say_refused(why);
-            Ended::Refused(why)
+            let of_file = is_of_file(&why);
+            console::say_refused(rt, why)?;
+            Ok(Ended::Refused(of_file))
         }
         DriveAnswer::Drove(end) => {
-            let outcome = end.outcome;
             let s = end.session;
-            print_outcome(outcome);
-            say(b" (object ");
-            say_number(s.object);
-            say(b", pc ");
-            say_number(s.pc);
-            say(b")\n");
-            Ended::With(end)
+            print_outcome(rt, &end.outcome)?;
+            say(rt, b" (object ")?;
+            say_number(rt, s.object)?;
+            say(rt, b", pc ")?;
+            say_number(rt, s.pc)?;
+            say(rt, b")\n")?;
+            Ok(Ended::With(end))
         }
     }
 }
 
-// Refusals 1 to 4 are those of a file, and the index file is judged first.
-fn print_refused(why: Refusal, index: &[u8]) {
-    say(b"ended: refused");
-    if why.number() <= 4 {
+// Refusals 1 to 4 are those of a file.
+fn is_of_file(why: &Refusal) -> bool {
+    matches!(
+        why,
+        Refusal::TooLong | Refusal::BadHeader | Refusal::BadBody | Refusal::BadEntry
+    )
+}
+
+// The index file is judged first.
+fn print_refused(rt: &impl Print, of_file: bool, index: &[u8]) -> io::Result<()> {
+    say(rt, b"ended: refused")?;
+    if of_file {
         let found = index_bdmv::verdict(index);
         match found {
-            Verdict::Refused(_) => say(b", the index file"),
-            Verdict::Fine => say(b", the object file"),
-        }
+            Verdict::Refused(_) => say(rt, b", the index file"),
+            Verdict::Fine => say(rt, b", the object file"),
+        }?;
     }
-    say(b"\n");
+    say(rt, b"\n")
 }
 
 // How the drive ended: its last outcome, and whether it waits for an answer still.
-fn print_last(last: DriveEnd) {
-    let outcome = last.outcome;
-    print_outcome(outcome);
+fn print_last(rt: &impl Print, last: DriveEnd) -> io::Result<()> {
+    print_outcome(rt, &last.outcome)?;
     let s = last.session;
     if s.pending {
-        say(b", and waits for a resume");
+        say(rt, b", and waits for a resume")?;
     }
-    say(b"\n");
+    say(rt, b"\n")
 }
 
-fn print_outcome(outcome: DriveOutcome) {
+fn print_outcome(rt: &impl Print, outcome: &DriveOutcome) -> io::Result<()> {
     match outcome {
-        DriveOutcome::Finished => say(b"finished"),
-        DriveOutcome::Play(play) => print_play(play),
-        DriveOutcome::Request(asked) => print_request(numbers::request_of(asked)),
+        DriveOutcome::Finished => say(rt, b"finished"),
+        DriveOutcome::Play(play) => print_play(rt, *play),
+        DriveOutcome::Request(asked) => print_request(rt, numbers::request_of(*asked)),
         DriveOutcome::BadTitle(title) => {
-            say(b"bad title ");
-            say_number(title);
+            say(rt, b"bad title ")?;
+            say_number(rt, *title)
         }
         DriveOutcome::BadObject(object) => {
-            say(b"bad object ");
-            say_number(object);
+            say(rt, b"bad object ")?;
+            say_number(rt, *object)
         }
-        DriveOutcome::BudgetExhausted => say(b"budget exhausted"),
-        DriveOutcome::ObjectStackFull => say(b"object stack full"),
-        DriveOutcome::TitleStackFull => say(b"title stack full"),
+        DriveOutcome::BudgetExhausted => say(rt, b"budget exhausted"),
+        DriveOutcome::ObjectStackFull => say(rt, b"object stack full"),
+        DriveOutcome::TitleStackFull => say(rt, b"title stack full"),
     }
 }
 
-fn print_play(play: PlayRequest) {
-    say(b"play list ");
-    say_number(play.playlist);
+fn print_play(rt: &impl Print, play: PlayRequest) -> io::Result<()> {
+    say(rt, b"play list ")?;
+    say_number(rt, play.playlist)?;
     let item = play.play_item;
     if let Option32::Some(n) = item {
-        say(b" from item ");
-        say_number(n);
+        say(rt, b" from item ")?;
+        say_number(rt, n)?;
     }
     let mark = play.mark;
     if let Option32::Some(n) = mark {
-        say(b" from mark ");
-        say_number(n);
+        say(rt, b" from mark ")?;
+        say_number(rt, n)?;
     }
+    Ok(())
 }
 
 // A request by its name, or by its code where it has none, and its operands.
-fn print_request(asked: Request) {
-    say(b"request ");
+fn print_request(rt: &impl Print, asked: Request) -> io::Result<()> {
+    say(rt, b"request ")?;
     let op = asked.op;
     if op == 0 {
-        say(b"of code ");
-        say_number(asked.code);
+        say(rt, b"of code ")?;
+        say_number(rt, asked.code)?;
     }
-    print_name((op % 48) as u8);
-    say(b" ");
-    say_number(asked.first);
-    say(b", ");
-    say_number(asked.second);
+    print_name(rt, (op % 48) as u8)?;
+    say(rt, b" ")?;
+    say_number(rt, asked.first)?;
+    say(rt, b", ")?;
+    say_number(rt, asked.second)
 }
 
-fn print_name(number: u8) {
+fn print_name(rt: &impl Print, number: u8) -> io::Result<()> {
     let mut name = [0u8; 32];
     let end = nav_names::put_mnemonic(&mut name, 0, number);
-    console::say_first(end, &name);
+    console::say_first(rt, end, &name)
 }

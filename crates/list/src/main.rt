@@ -6,43 +6,43 @@ ghost use Rattle.nav_list.specs.Rules.{listing};
 ghost use Rattle.list.specs.Rules.{shown_of};
 
 use error::Refusal;
-use libc::STDIN_FILENO;
 use nav_list::Listed;
+use std::io;
+use std::io::{Input, Print};
 
 // This program takes at most so many bytes.
 const LIMIT: usize = 65536;
 
-fn main() {
+fn main(rt: HostRuntime) -> io::Result<()> {
     let mut bytes = [0u8; 65537];
-    let n = io::read_full(STDIN_FILENO, &mut bytes);
+    let n = console::read_full(&mut rt.reader(), &mut bytes)?;
     if LIMIT < n {
-        print_refused(Refusal::TooLong);
-        return;
+        return print_refused(&rt, Refusal::TooLong);
     }
-    print_file(&bytes[..n]);
+    print_file(&rt, &bytes[..n])
 }
 
-fn print_refused(why: Refusal) {
-    console::say(b"refused ");
-    console::say_number(why.number() as u32);
-    console::say(b"\n");
+fn print_refused(rt: &impl Print, why: Refusal) -> io::Result<()> {
+    console::say(rt, b"refused ")?;
+    console::say_number(rt, why.number() as u32)?;
+    console::say(rt, b"\n")
 }
 
 // With room for 25 bytes of text for each byte that the program takes.
-fn print_file(file: &[u8])
+fn print_file(rt: &impl Print, file: &[u8]) -> io::Result<()>
     requires { length file.now ≤ 65536 }
 {
     let mut room = [0u8; 1638400];
-    print_listing(file, &mut room);
+    print_listing(rt, file, &mut room)
 }
 
-fn print_listing(file: &[u8], room: &mut [u8])
+fn print_listing(rt: &impl Print, file: &[u8], room: &mut [u8]) -> io::Result<()>
     requires { 25 * length file.now ≤ length room.old }
 {
     let listed = list_file(file, room);
     match listed {
-        Listed::At(end) => console::say_first(end, room),
-        Listed::Refused(why) => print_refused(why),
+        Listed::At(end) => console::say_first(rt, end, room),
+        Listed::Refused(why) => print_refused(rt, why),
     }
 }
 

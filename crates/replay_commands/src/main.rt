@@ -5,10 +5,11 @@ ghost use Rattle.std.specs.Prelude.{◌≡◌, ◌+◌, ◌≤◌, length};
 ghost use Rattle.replay_commands.specs.Onward.{Onward};
 
 use error::Verdict;
-use libc::{STDIN_FILENO, STDOUT_FILENO};
 use nav_command::{CommandGroup, DecodedCommand, Operand, Operation};
 use nav_list::Listed;
 use replay_list::{print, same};
+use std::io;
+use std::io::{Input, Print};
 
 // Where the next record starts, and whether this one agrees with the port.
 #[derive(Drop)]
@@ -133,37 +134,36 @@ fn replay_one(input: &[u8], at: usize) -> Replayed
     Replayed::Next(to, agrees(&input[at..from], &input[from..to]))
 }
 
-fn tell(line: u32, agreed: bool) -> u32 {
+fn tell(rt: &impl Print, line: u32, agreed: bool) -> io::Result<u32> {
     if agreed {
-        return 0;
+        return Ok(0);
     }
-    print(line, b" is the number of a line that differs\n");
-    1
+    print(rt, line, b" is the number of a line that differs\n")?;
+    Ok(1)
 }
 
-fn replay(input: &[u8]) {
+fn replay(rt: &impl Print, input: &[u8]) -> io::Result<()> {
     let mut at = 0;
     let mut lines = 0;
     let mut wrong = 0;
     while 42 <= input.len() - at {
         let Replayed::Next(next, agreed) = replay_one(input, at) else {
-            io::write_all(STDOUT_FILENO, b"the last line is cut\n");
-            return;
+            return rt.write_all(b"the last line is cut\n");
         };
         lines = word::add(lines, 1);
-        wrong = word::add(wrong, tell(lines, agreed));
+        wrong = word::add(wrong, tell(rt, lines, agreed)?);
         at = next;
     }
-    print(lines, b" commands compared\n");
-    print(wrong, b" differ\n");
+    print(rt, lines, b" commands compared\n")?;
+    print(rt, wrong, b" differ\n")
 }
 
-fn replay_read(input: &mut [u8]) {
-    let count = io::read_full(STDIN_FILENO, input);
-    replay(&input[..count]);
+fn replay_read<R: Input + Print>(rt: &R, input: &mut [u8]) -> io::Result<()> {
+    let count = console::read_full(&mut rt.reader(), input)?;
+    replay(rt, &input[..count])
 }
 
-fn main() {
+fn main(rt: HostRuntime) -> io::Result<()> {
     let mut input = [0u8; 300000];
-    replay_read(&mut input);
+    replay_read(&rt, &mut input)
 }

@@ -9,10 +9,11 @@ ghost use Rattle.movie_object.specs.Pieces.{Placed};
 use common::Written;
 use error::Verdict;
 use index_bdmv::{AppInfoBdmv, IndexBdmv, IndexEntry, IndexObjectType, Lead, Resolved};
-use libc::STDIN_FILENO;
 use movie_object::{MovieObject, MovieObjects, Object};
 use nav_list::Listed;
 use replay_list::{byte, half, number, part, print, same};
+use std::io;
+use std::io::{Input, Print};
 
 // The listing program takes at most so many bytes.
 const LISTED: usize = 65536;
@@ -323,8 +324,9 @@ fn answer_objects(out: &mut [u8], file: &[u8], input: &[u8], asked: u32) -> usiz
     let parsed = MovieObjects::parse(file);
     match parsed {
         movie_object::Parsed::Refused(why) => {
-            let at = text::put_byte(out, 0, why.number());
-            text::put_byte(out, at, listing_number(file.len(), why.number()))
+            let number = why.number();
+            let at = text::put_byte(out, 0, number);
+            text::put_byte(out, at, listing_number(file.len(), number))
         }
         movie_object::Parsed::Read(objects) => {
             let a = text::put_byte(out, 0, 0);
@@ -638,19 +640,19 @@ fn replay_with_room(input: &[u8]) -> Replayed {
     replay_all(input, &mut file)
 }
 
-fn replay_read(input: &mut [u8]) {
-    let got = io::read_full(STDIN_FILENO, input);
+fn replay_read<R: Input + Print>(rt: &R, input: &mut [u8]) -> io::Result<()> {
+    let got = console::read_full(&mut rt.reader(), input)?;
     let replayed = replay_with_room(input);
-    print(half(input, 0, 0), b" files, ");
-    print(replayed.answered, b" bytes of answers, ");
+    print(rt, half(input, 0, 0), b" files, ")?;
+    print(rt, replayed.answered, b" bytes of answers, ")?;
     let end = replay_list::Replayed {
         next: replayed.next,
         wrong: replayed.wrong,
     };
-    replay_list::tell(end, got);
+    replay_list::tell(rt, end, got)
 }
 
-fn main() {
+fn main(rt: HostRuntime) -> io::Result<()> {
     let mut input = [0u8; 200000];
-    replay_read(&mut input);
+    replay_read(&rt, &mut input)
 }
