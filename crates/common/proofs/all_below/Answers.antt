@@ -1,4 +1,4 @@
--- The bytes passed are below the bound; the first that is not decides (`below_more`, `below-not`). Assumes nothing.
+-- The bytes passed are below the bound; the first that is not decides (`below_more`, `below_not`). Assumes nothing.
 use mathlib.Core.Path.{sym}
 use native.Mathlib.Omega.{arith}
 use Rattle.laws.specs.Firsts.{below_none, below_more, below_not}

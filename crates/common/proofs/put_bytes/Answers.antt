@@ -1,4 +1,4 @@
--- The loop lays one byte more of the source over the buffer each turn (`over-grow`). Assumes nothing.
+-- The loop lays one byte more of the source over the buffer each turn (`over_grow`). Assumes nothing.
 use mathlib.Core.List.{[], ◌∷◌, ◌++◌}
 use mathlib.Core.Path.{◌≡◌, sym}
 use Prim.Native.Nat.{◌+◌}

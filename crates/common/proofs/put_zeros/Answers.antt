@@ -1,4 +1,4 @@
--- The loop lays one zero more over the buffer each turn (`over-grow`). Assumes nothing.
+-- The loop lays one zero more over the buffer each turn (`over_grow`). Assumes nothing.
 use mathlib.Core.Path.{sym}
 use native.Mathlib.Omega.{arith}
 use lib.ListN.{length-replicate, replicate-append-replicate}
