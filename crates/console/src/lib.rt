@@ -106,6 +106,7 @@ fn open_named<R: Files + Eprint>(rt: &R, name: &[u8]) -> io::Result<Option<R::Fi
 }
 
 // Reads the file that an argument names to the start of the room. What leaves no byte of the room is not read: why is said.
+// An error is that of a read or of a write, and leaves of the room only its length.
 pub fn read_file<R: Env + Files + Print + Eprint>(
     rt: &R,
     which: usize,
