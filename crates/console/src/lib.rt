@@ -66,7 +66,8 @@ pub fn read_word(rt: &impl Env, which: usize, room: &mut [u8]) -> usize
 
 // Reads to the start of the room until it is full or the input ends.
 pub fn read_full(from: &mut impl Read, room: &mut [u8]) -> io::Result<usize>
-    ensures { ReadsAtMost result room.new }
+    ensures counted { ReadsAtMost result room.new }
+    ensures kept { length room.new ≡ length room.old }
 {
     let mut done = 0;
     while done < room.len() {
@@ -112,7 +113,8 @@ pub fn read_file<R: Env + Files + Print + Eprint>(
     which: usize,
     room: &mut [u8],
 ) -> io::Result<usize>
-    ensures { ReadsAtMost result room.new }
+    ensures counted { ReadsAtMost result room.new }
+    ensures kept { length room.new ≡ length room.old }
 {
     let mut name = [0u8; 4096];
     let length = read_word(rt, which, &mut name);
