@@ -1,22 +1,15 @@
 -- What the calls for C of one command hand back and leave, in the numbers of `nav_numbers`; a refusal alters nothing. Assumes nothing.
 use Rattle.std.specs.Prelude.{List, cond, ℕ}
-use Rattle.error.specs.Rules.{number_of}
 use Rattle.error.specs.declared.Refusal.TheVariants.{BadBuffer, NotEncodable}
 use Rattle.nav_numbers.specs.Rules.{command_numbers, command_named, is_command}
 use Rattle.nav_command.specs.Rules.{command_of}
 use Rattle.nav_encode.specs.Rules.{Encoding, encode_of}
 use Rattle.nav_list.specs.Rules.{Listing, line_of, list_of}
-use Rattle.nav_list.specs.declared.Listed.{Listed}
-use Rattle.nav_list.specs.declared.Listed.TheVariants as listed
-use Rattle.lent.specs.Rules.{sized, verdict_number, Handed, handed, refused, into, Length, size, Measured, measured, unmeasured}
+use Rattle.lent.specs.Rules.{length_by, sized, verdict_number, Handed, handed, refused, into, Measured, measured, unmeasured}
 
 -- A listing, and its length.
-abbrev pub text_by : Listed → ℕ → Length
-text_by (listed.At n) k = size 0 n
-text_by (listed.Refused r) k = size (number_of r) k
-
 abbrev pub text : Listing → ℕ → Measured
-text g k = measured g.held (text_by g.answer k)
+text g k = measured g.held (length_by g.answer k)
 
 unfoldable pub decode_call : List ℕ → List ℕ → Handed
 decode_call command l = into 13 l (cond (sized 12 command) (handed 0 (command_numbers (command_of command))) (refused BadBuffer l))

@@ -1,8 +1,7 @@
 -- Examples of decoding and encoding a command (document 01, module 4). Assumes nothing.
-use Rattle.std.specs.Prelude.{◌≡◌, refl, true, false, List, [], ◌∷◌, ◌++◌, ℕ, replicate}
+use Rattle.std.specs.Prelude.{◌≡◌, refl, true, false, List, [], ◌∷◌, ◌++◌, ℕ, replicate, Err, Ok}
 use Rattle.laws.specs.Over.{over}
 use Rattle.error.specs.declared.Refusal.TheVariants as refusal
-use Rattle.error.specs.declared.Verdict.TheVariants.{Fine, Refused}
 use Rattle.nav_command.specs.declared.BranchOp.TheVariants as B
 use Rattle.nav_command.specs.declared.CompareOp.TheVariants as C
 use Rattle.nav_command.specs.declared.SetOp.TheVariants as S
@@ -71,16 +70,16 @@ unfolding operand_of be4 command_of
 count_1 = refl
 
 -- The encoder writes the command whose ignored bits are zero, and no byte past it.
-encoded : encode_of move (room 13) ≡ encoding Fine (p2 ++ (0xFF ∷ []))
+encoded : encode_of move (room 13) ≡ encoding (Ok tt) (p2 ++ (0xFF ∷ []))
 unfolding over set_of operand_of be4 command_of bytes_of same encodable encode_of
 encoded = refl
 
 -- An absent operand's word is ignored, and zero where it is written.
-ignored_word : encode_of (command_of (command 0x2181_0000 0x1_0001 7)) (room 12) ≡ encoding Fine (command 0x2181_0000 0x1_0001 0)
+ignored_word : encode_of (command_of (command 0x2181_0000 0x1_0001 7)) (room 12) ≡ encoding (Ok tt) (command 0x2181_0000 0x1_0001 0)
 unfolding over branch_of operand_of be4 command_of bytes_of same encodable encode_of
 ignored_word = refl
 
 -- No room: eleven bytes stay as they are.
-eleven_bytes : encode_of move (room 11) ≡ encoding (Refused refusal.NoRoom) (room 11)
+eleven_bytes : encode_of move (room 11) ≡ encoding (Err refusal.NoRoom) (room 11)
 unfolding set_of operand_of be4 command_of bytes_of same encodable encode_of
 eleven_bytes = refl

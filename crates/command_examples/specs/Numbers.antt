@@ -12,7 +12,7 @@ use Rattle.common.specs.Rules.{be4}
 use Rattle.nav_command.specs.Rules.{branch_number, compare_number, set_number, system_number, number_of, group_of, branch_of, set_of, operation_of, operand_of, command_of}
 use Rattle.nav_numbers.specs.Pieces.{place, place_of}
 use Rattle.nav_numbers.specs.Rules.{flag_number, pair, unknown_of, operand_pair, command_numbers, group_named, operand_named, sheet_named, command_named, is_command}
-use Rattle.command_examples.specs.Commands.{command, p2, move}
+use Rattle.command_examples.specs.Commands.{p2, move}
 
 -- what the examples compute with
 opened : Unit {0}

@@ -1,8 +1,7 @@
 -- The theorems on one command at small inputs (document 01, module 4). Assumes nothing.
-use Rattle.std.specs.Prelude.{◌≡◌, refl, List, ℕ, replicate}
+use Rattle.std.specs.Prelude.{◌≡◌, refl, List, ℕ, replicate, Err, Ok}
 use Rattle.laws.specs.Over.{over}
 use Rattle.error.specs.declared.Refusal.TheVariants as refusal
-use Rattle.error.specs.declared.Verdict.TheVariants.{Fine, Refused}
 use Rattle.nav_command.specs.declared.CommandGroup.TheVariants as G
 use Rattle.nav_command.specs.declared.DecodedCommand.{DecodedCommand}
 use Rattle.common.specs.Rules.{be4}
@@ -39,7 +38,7 @@ abbrev worn : List ℕ
 worn = command 0x21B1_3333 0x1_0001 7
 
 -- Encoding what was decoded gives the bytes with the ignored bits zero.
-encoded_back : encode_of (command_of worn) (room 12) ≡ encoding Fine bare
+encoded_back : encode_of (command_of worn) (room 12) ≡ encoding (Ok tt) bare
 unfolding opened
 encoded_back = refl
 
@@ -52,7 +51,7 @@ none_decode : NoneDecode misplaced
 unfolding opened
 none_decode = (refused misplaced (room 12)).0 refl
 
-some_decode : (encode_of (command_of p2) (room 11)).answer ≡ Refused refusal.NoRoom
+some_decode : (encode_of (command_of p2) (room 11)).answer ≡ Err refusal.NoRoom
 unfolding opened
 some_decode = refl
 

@@ -1,7 +1,7 @@
 -- Laws of big-endian numbers, and what the reader's answers and the header's verdict tell. Assumes nothing.
 use Rattle.std.proofs.Math.Path.{◌≡◌, refl}
 use Rattle.std.proofs.Common.{sym, ap, ◌∙◌, add_assoc, arith, length-drop, get_or-append-add, length-take-le, ext_get_or}
-use Rattle.std.specs.Prelude.{Bool, List, [], ◌∷◌, ◌++◌, ℕ, ◌+◌, ◌*◌, ◌/◌, ◌%◌, ◌≤◌, ◌<◌, leb, length, get_or, take, drop, replicate}
+use Rattle.std.specs.Prelude.{Bool, List, [], ◌∷◌, ◌++◌, ℕ, ◌+◌, ◌*◌, ◌/◌, ◌%◌, ◌≤◌, ◌<◌, leb, length, get_or, take, drop, replicate, Err, Ok, Result}
 use Rattle.std.proofs.Math.Bool.{true, false, cond}
 use Rattle.std.proofs.Math.Nat.{div-div-eq-div-mul}
 use Rattle.std.proofs.Math.Dec.{ltb, eqb}
@@ -9,22 +9,11 @@ use Rattle.std.proofs.lemmas.List.{length-replicate, get_or-replicate}
 use Rattle.std.proofs.Math.ListN.{get_or-eq_default}
 use borrow.Author.Tests.{leb-true, leb-false, le-ltb, ltb-false, eq-eqb, eqb-true}
 use Rattle.laws.specs.Part.{part_cons, part_at}
-use Rattle.error.specs.Rules.{refused_if}
+use Rattle.error.specs.Rules.{Verdict, fine, refused_if}
 use Rattle.error.specs.Laws.{both_fine, not_refused}
 use Rattle.error.specs.declared.Refusal.{Refusal}
 use Rattle.error.specs.declared.Refusal.TheVariants.{TooLong, BadHeader, BadBody, NoRoom}
-use Rattle.error.specs.declared.Verdict.TheVariants.{Fine, Refused}
-use Rattle.common.specs.declared.Reader.{Reader}
-use Rattle.common.specs.declared.Moved.{Moved}
-use Rattle.common.specs.declared.Moved.TheVariants as moved
-use Rattle.common.specs.declared.Byte.{Byte}
-use Rattle.common.specs.declared.Byte.TheVariants as byte
-use Rattle.common.specs.declared.Half.{Half}
-use Rattle.common.specs.declared.Half.TheVariants as half
-use Rattle.common.specs.declared.Word.{Word}
-use Rattle.common.specs.declared.Word.TheVariants as word
-use Rattle.common.specs.declared.Written.TheVariants.{Bytes}
-use Rattle.common.specs.Rules.{be2, be4, bytes2, bytes4, reader, seek_of, read_u8, read_u16, read_u32, limit, header_of, room_verdict, left}
+use Rattle.common.specs.Rules.{be2, be4, bytes2, bytes4, seek_of, read_u8, read_u16, read_u32, limit, header_of, room_verdict, left}
 
 -- ---- numbers in a longer list
 
@@ -64,65 +53,55 @@ be4_bytes4 q x h = digits x (x / 256) (x / 65536) (x / 16777216) refl (sym (div-
 -- ---- what an answer of the reader tells
 
 -- a position that was reached
-pub record Reached (s : List ℕ) (to : ℕ) (r : Reader) : Type 0 where
+pub record Reached (s : List ℕ) (to q : ℕ) : Type 0 where
   pub inside : to ≤ length s
-  pub here : r.pos ≡ to
+  pub here : q ≡ to
 
 -- a value that was read, and the position behind it
-pub record Took (s : List ℕ) (to value x : ℕ) (r : Reader) : Type 0 where
+pub record Took (s : List ℕ) (to value x q : ℕ) : Type 0 where
   pub inside : to ≤ length s
   pub is : x ≡ value
-  pub here : r.pos ≡ to
+  pub here : q ≡ to
+
+-- an answer beside the position after it
+abbrev Answer : Type 0 → Type 0
+Answer A = Result A Refusal × ℕ
 
 -- which way a test went, from the answer that it picked
-yes : {A : Type 0} (t : Bool) {x y z : A} → (y ≡ z → ⊥) → cond t x y ≡ z → (t ≡ true) × (x ≡ z)
-yes true n e = (refl, e)
-yes false n e = absurd (n e)
+module _ {A : Type 0} (v : A) (to at : ℕ) {m : Result A Refusal} {q : ℕ} where
+  went : (t : Bool) {x : A} → ◌≡◌ {A = Answer A} (m, q) (cond t (Ok v, to) (Err BadBody, at)) → m ≡ Ok x → (t ≡ true) × (x ≡ v) × (q ≡ to)
+  went true e f = let g = sym f ∙ ap (λ (a : Answer A). a.0) e in (refl, cc, ap (λ (a : Answer A). a.1) e)
+  went false e f = let g = sym f ∙ ap (λ (a : Answer A). a.0) e in let z : ◌≡◌ {A = ℕ} 0 1 = cc in absurd (omega arith)
 
-no : {A : Type 0} (t : Bool) (y : A) {x z : A} → (x ≡ z → ⊥) → cond t x y ≡ z → t ≡ false
-no true y n e = absurd (n e)
-no false y n e = refl
+  stayed : (t : Bool) {w : Refusal} → ◌≡◌ {A = Answer A} (m, q) (cond t (Ok v, to) (Err BadBody, at)) → m ≡ Err w → t ≡ false
+  stayed true e f = let g = sym f ∙ ap (λ (a : Answer A). a.0) e in let z : ◌≡◌ {A = ℕ} 0 1 = cc in absurd (omega arith)
+  stayed false e f = refl
 
 -- from a position that is known by an equation
-module _ (s : List ℕ) (at : ℕ) {p : ℕ} (here : p ≡ at) where
-  pub seek_to : {m : Moved} {r : Reader} → m ≡ seek_of s p → m ≡ moved.To r → Reached s at r
-  seek_to {m} {r} e f =
-      let t = yes (leb at (length s)) (λ q. let z : ◌≡◌ {A = ℕ} 0 1 = cc in omega arith) (sym (rw here at e) ∙ f) in
-      let q : reader at ≡ r = cc in
-      record { inside = leb-true _ _ t.0; here = ap (λ (x : Reader). x.pos) (sym q) }
+module _ (s : List ℕ) (at : ℕ) {p q : ℕ} (here : p ≡ at) where
+  pub seek_to : (a : ℕ) {m : Verdict} → (m, q) ≡ seek_of s a p → m ≡ fine → Reached s at q
+  seek_to a e f = let t = went _ _ _ (leb at (length s)) (rw here at e) f in record { inside = leb-true _ _ t.0; here = t.2 }
 
-  pub seek_past : {m : Moved} {w : Refusal} → m ≡ seek_of s p → m ≡ moved.Refused w → length s < at
-  seek_past e f = leb-false _ _ (no (leb at (length s)) (moved.Refused BadBody) (λ q. let z : ◌≡◌ {A = ℕ} 0 1 = cc in omega arith) (sym (rw here at e) ∙ f))
+  pub seek_past : (a : ℕ) {m : Verdict} {w : Refusal} → (m, q) ≡ seek_of s a p → m ≡ Err w → length s < at
+  seek_past a e f = leb-false _ _ (stayed tt at a (leb at (length s)) (rw here at e) f)
 
-  pub u8_read : {m : Byte} {x : ℕ} {r : Reader} → m ≡ read_u8 s p → m ≡ byte.Value x r → Took s (at + 1) (get_or s at 0) x r
-  u8_read {m} {x} {r} e f =
-      let t = yes (leb (at + 1) (length s)) (λ q. let z : ◌≡◌ {A = ℕ} 0 1 = cc in omega arith) (sym (rw here at e) ∙ f) in
-      let v : x ≡ get_or s at 0 = cc in
-      let q : reader (at + 1) ≡ r = cc in
-      record { inside = leb-true _ _ t.0; is = v; here = ap (λ (y : Reader). y.pos) (sym q) }
+  pub u8_read : {m : Result ℕ Refusal} {x : ℕ} → (m, q) ≡ read_u8 s p → m ≡ Ok x → Took s (at + 1) (get_or s at 0) x q
+  u8_read e f = let t = went _ _ at (leb (at + 1) (length s)) (rw here at e) f in record { inside = leb-true _ _ t.0; is = t.1; here = t.2 }
 
-  pub u8_past : {m : Byte} {w : Refusal} → m ≡ read_u8 s p → m ≡ byte.Refused w → length s < at + 1
-  u8_past e f = leb-false _ _ (no (leb (at + 1) (length s)) (byte.Refused BadBody) (λ q. let z : ◌≡◌ {A = ℕ} 0 1 = cc in omega arith) (sym (rw here at e) ∙ f))
+  pub u8_past : {m : Result ℕ Refusal} {w : Refusal} → (m, q) ≡ read_u8 s p → m ≡ Err w → length s < at + 1
+  u8_past e f = leb-false _ _ (stayed (get_or s at 0) (at + 1) at (leb (at + 1) (length s)) (rw here at e) f)
 
-  pub u16_read : {m : Half} {x : ℕ} {r : Reader} → m ≡ read_u16 s p → m ≡ half.Value x r → Took s (at + 2) (be2 s at) x r
-  u16_read {m} {x} {r} e f =
-      let t = yes (leb (at + 2) (length s)) (λ q. let z : ◌≡◌ {A = ℕ} 0 1 = cc in omega arith) (sym (rw here at e) ∙ f) in
-      let v : x ≡ be2 s at = cc in
-      let q : reader (at + 2) ≡ r = cc in
-      record { inside = leb-true _ _ t.0; is = v; here = ap (λ (y : Reader). y.pos) (sym q) }
+  pub u16_read : {m : Result ℕ Refusal} {x : ℕ} → (m, q) ≡ read_u16 s p → m ≡ Ok x → Took s (at + 2) (be2 s at) x q
+  u16_read e f = let t = went _ _ at (leb (at + 2) (length s)) (rw here at e) f in record { inside = leb-true _ _ t.0; is = t.1; here = t.2 }
 
-  pub u16_past : {m : Half} {w : Refusal} → m ≡ read_u16 s p → m ≡ half.Refused w → length s < at + 2
-  u16_past e f = leb-false _ _ (no (leb (at + 2) (length s)) (half.Refused BadBody) (λ q. let z : ◌≡◌ {A = ℕ} 0 1 = cc in omega arith) (sym (rw here at e) ∙ f))
+  pub u16_past : {m : Result ℕ Refusal} {w : Refusal} → (m, q) ≡ read_u16 s p → m ≡ Err w → length s < at + 2
+  u16_past e f = leb-false _ _ (stayed (be2 s at) (at + 2) at (leb (at + 2) (length s)) (rw here at e) f)
 
-  pub u32_read : {m : Word} {x : ℕ} {r : Reader} → m ≡ read_u32 s p → m ≡ word.Value x r → Took s (at + 4) (be4 s at) x r
-  u32_read {m} {x} {r} e f =
-      let t = yes (leb (at + 4) (length s)) (λ q. let z : ◌≡◌ {A = ℕ} 0 1 = cc in omega arith) (sym (rw here at e) ∙ f) in
-      let v : x ≡ be4 s at = cc in
-      let q : reader (at + 4) ≡ r = cc in
-      record { inside = leb-true _ _ t.0; is = v; here = ap (λ (y : Reader). y.pos) (sym q) }
+  pub u32_read : {m : Result ℕ Refusal} {x : ℕ} → (m, q) ≡ read_u32 s p → m ≡ Ok x → Took s (at + 4) (be4 s at) x q
+  u32_read e f = let t = went _ _ at (leb (at + 4) (length s)) (rw here at e) f in record { inside = leb-true _ _ t.0; is = t.1; here = t.2 }
 
-  pub u32_past : {m : Word} {w : Refusal} → m ≡ read_u32 s p → m ≡ word.Refused w → length s < at + 4
-  u32_past e f = leb-false _ _ (no (leb (at + 4) (length s)) (word.Refused BadBody) (λ q. let z : ◌≡◌ {A = ℕ} 0 1 = cc in omega arith) (sym (rw here at e) ∙ f))
+  pub u32_past : {m : Result ℕ Refusal} {w : Refusal} → (m, q) ≡ read_u32 s p → m ≡ Err w → length s < at + 4
+  u32_past e f = leb-false _ _ (stayed (be4 s at) (at + 4) at (leb (at + 4) (length s)) (rw here at e) f)
 
 -- ---- the header
 
@@ -133,16 +112,16 @@ pub record Headed (kind : ℕ) (s : List ℕ) : Type 0 where
   pub named : be4 s 0 ≡ kind
 
 module _ (kind : ℕ) (s : List ℕ) where
-  pub header_fine : Headed kind s → header_of kind s ≡ Fine
+  pub header_fine : Headed kind s → header_of kind s ≡ Ok tt
   unfolding header_of
   header_fine h = simp (le-ltb _ _ h.short, le-ltb _ _ h.long, eq-eqb _ _ h.named)
 
-  pub headed : header_of kind s ≡ Fine → Headed kind s
+  pub headed : header_of kind s ≡ Ok tt → Headed kind s
   unfolding header_of
   headed e = go (ltb limit (length s)) refl (ltb (length s) 40) refl (eqb (be4 s 0) kind) refl e
     where
       go : (a : Bool) → ltb limit (length s) ≡ a → (b : Bool) → ltb (length s) 40 ≡ b → (d : Bool) → eqb (be4 s 0) kind ≡ d
-          → cond a (Refused TooLong) (cond b (Refused BadHeader) (cond d Fine (Refused BadHeader))) ≡ Fine → Headed kind s
+          → cond a (Err TooLong) (cond b (Err BadHeader) (cond d fine (Err BadHeader))) ≡ fine → Headed kind s
       go true ea b eb d ed v = let z : ◌≡◌ {A = ℕ} 0 1 = cc in absurd (omega arith)
       go false ea true eb d ed v = let z : ◌≡◌ {A = ℕ} 0 1 = cc in absurd (omega arith)
       go false ea false eb false ed v = let z : ◌≡◌ {A = ℕ} 0 1 = cc in absurd (omega arith)
@@ -225,15 +204,15 @@ zeros_at s at n h z =
 
 -- ---- what a writer has room for, and what it leaves
 
-pub room_tells : (size room : ℕ) → room_verdict size room ≡ Fine → (size ≤ limit) × (size ≤ room)
+pub room_tells : (size room : ℕ) → room_verdict size room ≡ Ok tt → (size ≤ limit) × (size ≤ room)
 unfolding room_verdict
 room_tells size room e =
     let p = both_fine (refused_if (ltb limit size) NoRoom) _ e in
     (ltb-false _ _ (not_refused _ NoRoom p.0), ltb-false _ _ (not_refused _ NoRoom p.1))
 
-pub room_made : (size room : ℕ) → size ≤ limit → size ≤ room → room_verdict size room ≡ Fine
+pub room_made : (size room : ℕ) → size ≤ limit → size ≤ room → room_verdict size room ≡ Ok tt
 unfolding room_verdict
 room_made size room short fits = simp (le-ltb _ _ short, le-ltb _ _ fits)
 
-pub left_is : {out out' : List ℕ} {n n' : ℕ} → out ≡ out' → n ≡ n' → left out (Bytes n) ≡ left out' (Bytes n')
+pub left_is : {out out' : List ℕ} {n n' : ℕ} → out ≡ out' → n ≡ n' → left out (Ok n) ≡ left out' (Ok n')
 left_is e f = cc

@@ -1,5 +1,5 @@
 -- How the words of a command line are read: what a word begins with, and the decimal number in it. Assumes nothing.
-use Rattle.std.specs.Prelude.{Bool, true, false, cond, ◌&&◌, List, [], ◌∷◌, ℕ, ◌+◌, ◌-◌, ◌*◌, leb, eqb, drop, get_or}
+use Rattle.std.specs.Prelude.{Bool, true, false, cond, ◌&&◌, List, [], ◌∷◌, ℕ, ◌+◌, ◌-◌, ◌*◌, leb, eqb, drop, get_or, Some, None}
 use Rattle.console.specs.declared.Decimal.{Decimal}
 
 -- Whether the first bytes of a word are those of another.
@@ -16,12 +16,12 @@ is_digit b = leb 48 b && leb b 57
 abbrev pub more : ℕ → ℕ → ℕ
 more v b = v * 10 + (b - 48)
 
--- The answer: what the number is, where it ends, and whether there is one.
+-- The answer: the number, if there is one, and where it ends.
 abbrev pub number_of : ℕ → ℕ → Decimal
-number_of v end = record { value = v; end = end; fits = true }
+number_of v end = record { value = Some v; end = end }
 
 abbrev pub no_number : ℕ → Decimal
-no_number end = record { value = 0; end = end; fits = false }
+no_number end = record { value = None; end = end }
 
 -- The digits before `at` say v; the number ends before the first byte that is no digit, and over 4,294,967,295 it is none.
 unfoldable pub goes_on_at : ℕ → ℕ → List ℕ → Decimal

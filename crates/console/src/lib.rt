@@ -3,15 +3,15 @@
 
 ghost use Rattle.std.specs.Prelude.{◌≡◌, ◌≤◌, length, drop};
 ghost use Rattle.std.specs.Io.{ReadsAtMost};
-ghost use Rattle.console.specs.Rules.{begins_with, is_digit, number_of, no_number, goes_on_at, number_in};
+ghost use Rattle.console.specs.Rules.{begins_with, number_of, no_number, goes_on_at, number_in};
 
 use error::Refusal;
 use std::env::{Env, FillError};
 use std::fmt::InlineText;
 use std::fs::File;
-use std::io;
 use std::io::{Eprint, Print, Read};
 use std::rt::Files;
+use std::{fmt, io};
 
 pub fn say(rt: &impl Print, words: &[u8]) -> io::Result<()> {
     rt.write_all(words)
@@ -25,26 +25,27 @@ pub fn say_first(rt: &impl Print, n: usize, room: &[u8]) -> io::Result<()> {
     Ok(())
 }
 
-pub fn say_number(rt: &impl Print, n: u32) -> io::Result<()> {
-    print!(rt; "{n}")
-}
+// A refusal as the programs print it: its number and its words.
+#[derive(Clone, Copy)]
+pub struct Refused(pub Refusal);
 
-// The number and the words of a refusal, and a line end.
-pub fn say_refused(rt: &impl Print, why: Refusal) -> io::Result<()> {
-    let words = match &why {
-        Refusal::TooLong => "the file is too long",
-        Refusal::BadHeader => "the file is too short, or of another kind",
-        Refusal::BadBody => "the file ends before what it states",
-        Refusal::BadEntry => "an entry of unknown type, or a name that is not UTF-8",
-        Refusal::NoRoom => "no room for the output",
-        Refusal::BadBuffer => "a buffer of a wrong length",
-        Refusal::BadBudget => "a budget over its limit",
-        Refusal::BadSession => "a session that does not fit the disc",
-        Refusal::NotEncodable => "what cannot be encoded",
-        Refusal::NotAnEntry => "no such entry",
-    };
-    let number = why.number();
-    println!(rt; "refused {number}: {words}")
+impl fmt::Display for Refused {
+    fn fmt<W: fmt::Write>(&self, f: &mut fmt::Formatter<W>) -> fmt::Result {
+        let words = match self.0 {
+            Refusal::TooLong => "the file is too long",
+            Refusal::BadHeader => "the file is too short, or of another kind",
+            Refusal::BadBody => "the file ends before what it states",
+            Refusal::BadEntry => "an entry of unknown type, or a name that is not UTF-8",
+            Refusal::NoRoom => "no room for the output",
+            Refusal::BadBuffer => "a buffer of a wrong length",
+            Refusal::BadBudget => "a budget over its limit",
+            Refusal::BadSession => "a session that does not fit the disc",
+            Refusal::NotEncodable => "what cannot be encoded",
+            Refusal::NotAnEntry => "no such entry",
+        };
+        let number = self.0.number();
+        write!(f, "refused {number}: {words}")
+    }
 }
 
 // How many words the program was started with, its own name among them.
@@ -65,6 +66,7 @@ pub fn read_word(rt: &impl Env, which: usize, room: &mut [u8]) -> usize
 }
 
 // Reads to the start of the room until it is full or the input ends.
+// A `while`, since each read says itself how far it came.
 pub fn read_full(from: &mut impl Read, room: &mut [u8]) -> io::Result<usize>
     ensures counted { ReadsAtMost result room.new }
     ensures kept { length room.new ≡ length room.old }
@@ -84,14 +86,13 @@ pub fn read_full(from: &mut impl Read, room: &mut [u8]) -> io::Result<usize>
 fn say_unopened(rt: &impl Eprint, name: &str, error: io::Error) -> io::Result<()> {
     let text = InlineText::<128>::of(error);
     let text = text.as_str();
-    let words = match text.split_once(" (os error ") {
-        Some((words, _)) => words,
-        None => text,
-    };
+    let words = text
+        .split_once(" (os error ")
+        .map_or(text, |(words, _)| words);
     eprintln!(rt; "{name}: {words}")
 }
 
-// Opens the file of a name for reading, or says why it cannot.
+// Opens the file of a name for reading, or says why it cannot: so what fails is matched here, and not handed on by `?`.
 fn open_named<R: Files + Eprint>(rt: &R, name: &[u8]) -> io::Result<Option<R::File>> {
     let Ok(path) = str::from_utf8(name) else {
         eprintln!(rt; "a file's name that is not UTF-8")?;
@@ -129,86 +130,62 @@ pub fn read_file<R: Env + Files + Print + Eprint>(
     Ok(n)
 }
 
-// A decimal number in a word: what it is, where it ends, and whether there is one that fits 32 bits.
-#[derive(Drop)]
+// A decimal number in a word: what it is, if one that fits 32 bits stands there, and where it ends.
+#[derive(Clone, Copy)]
 pub struct Decimal {
-    pub value: u32,
+    pub value: Option<u32>,
     pub end: usize,
-    pub fits: bool,
 }
 
 fn number(value: u32, end: usize) -> Decimal
     ensures { result ≡ number_of value end }
 {
     Decimal {
-        value,
+        value: Some(value),
         end,
-        fits: true,
     }
 }
 
 fn no_number(end: usize) -> Decimal
     ensures { result ≡ no_number end }
 {
-    Decimal {
-        value: 0,
-        end,
-        fits: false,
-    }
-}
-
-fn is_digit(b: u8) -> bool
-    ensures { result ≡ is_digit b }
-{
-    (b'0' <= b) & (b <= b'9')
+    Decimal { value: None, end }
 }
 
 // What the digits from a place on say.
 fn digits_from(word: &[u8], at: usize) -> Decimal
     ensures { result ≡ goes_on_at 0 at (drop at word.now) }
 {
-    let mut value: u64 = 0;
-    let mut i = at;
-    while i < word.len() {
+    let mut value = 0;
+    for i in at..word.len() {
         let b = word[i];
-        if !is_digit(b) {
-            return number(value as u32, i);
+        if !b.is_ascii_digit() {
+            return number(value, i);
         }
-        value = value * 10 + ((b - b'0') as u64);
-        if 4_294_967_295 < value {
-            return no_number(i);
+        let more = u64::from(value) * 10 + u64::from(b - b'0');
+        match u32::try_from(more) {
+            Ok(next) => value = next,
+            Err(_) => return no_number(i),
         }
-        i += 1;
     }
-    number(value as u32, i)
+    number(value, at.max(word.len()))
 }
 
 // The number from a place of a word on.
 pub fn number_in(word: &[u8], at: usize) -> Decimal
     ensures { result ≡ number_in word.now at }
 {
-    if word.len() <= at {
-        return no_number(at);
+    if word.get(at).is_some_and(|b| b.is_ascii_digit()) {
+        digits_from(word, at)
+    } else {
+        no_number(at)
     }
-    if !is_digit(word[at]) {
-        return no_number(at);
-    }
-    digits_from(word, at)
 }
 
 // Whether a word begins with another.
+#[tactic(auto, using(crate::specs::Laws::begins))]
 pub fn begins(word: &[u8], with: &[u8]) -> bool
     ensures { result ≡ begins_with word.now with.now }
 {
-    let mut i = 0;
-    while i < with.len() {
-        if word.len() <= i {
-            return false;
-        }
-        if word[i] != with[i] {
-            return false;
-        }
-        i += 1;
-    }
-    true
+    word.starts_with(with)
 }

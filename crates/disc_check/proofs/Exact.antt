@@ -11,9 +11,7 @@ use lib.ListN.{length, get_or, get_or-eq_default}
 use borrow.Author.Tests.{le-leb, lt-leb, ltb-true, ltb-false, leb-false}
 use Rattle.laws.specs.Cases.{either_way, by_test}
 use Rattle.error.specs.declared.Refusal.{Refusal}
-use Rattle.error.specs.declared.Verdict.{Verdict}
-use Rattle.error.specs.declared.Verdict.TheVariants as verdict
-use Rattle.error.specs.Rules.{first_of}
+use Rattle.error.specs.Rules.{Verdict, first_of}
 use Rattle.index_bdmv.specs.Rules.{resolve_of, place_of, verdict_of as indexVerdict}
 use Rattle.movie_object.specs.Rules.{count_of, commands_of, verdict_of as objectsVerdict}
 use Rattle.movie_object.specs.Laws.{commands_missing}
@@ -35,10 +33,9 @@ use Rattle.vm.specs.Rules.{Banks, banks, After, value_of, branch_of, exec_branch
 use Rattle.disc_check.specs.declared.DiscCheck.TheVariants as C
 use Rattle.disc_check.specs.declared.Reach.{Reach}
 use Rattle.disc_check.specs.declared.Reach.TheVariants.{Always, Anything}
-use Rattle.disc_check.specs.declared.Found.{Found}
-use Rattle.disc_check.specs.declared.Found.TheVariants.{At, Nothing}
 use Rattle.disc_check.specs.Rules.{register_reach, reach_of, leads_nowhere, object_offends, title_offends, branch_offends, operation_offends, group_offends, command_offends, offends_at, first_command, in_object, first_object, check_of}
 use Rattle.disc_check.specs.Promise.{asking, Contents, Offence, Clean, First, Exact}
+use Rattle.std.specs.Prelude.{Err, None, Ok, Option, Result, Some}
 
 pub true_false : {A : Type 0} → true ≡ false → A
 true_false h = absurd (subst (λ (b : Bool). T b) h tt)
@@ -307,26 +304,26 @@ pub record FirstAt (x : List ℕ) (n : ℕ) (cs : List ℕ) (left k m : ℕ) : T
   pub fine : (j : ℕ) → k ≤ j → j < m → offends_at x n cs j ≡ false
 
 module _ (x : List ℕ) (n : ℕ) (cs : List ℕ) where
-  none_each : (left k : ℕ) → first_command x n cs left k ≡ Nothing → (j : ℕ) → k ≤ j → j < k + left → offends_at x n cs j ≡ false
+  none_each : (left k : ℕ) → first_command x n cs left k ≡ None → (j : ℕ) → k ≤ j → j < k + left → offends_at x n cs j ≡ false
   unfolding first_command
   none_each zero k e j lo hi = absurd (omega arith)
   none_each (suc left) k e j lo hi =
       by_test (offends_at x n cs k)
-      (λ b. let z : At k ≡ Nothing = rw b at e in let y : ◌≡◌ {A = ℕ} 0 1 = cc in absurd (omega arith))
+      (λ b. let z : (Some k) ≡ None = rw b at e in let y : ◌≡◌ {A = ℕ} 0 1 = cc in absurd (omega arith))
       (λ b. ⊎_elim (λ (q : k ≡ j). rw (← q, b)) (λ (q : k < j). none_each left (suc k) (rw b at e) j (omega arith) (omega arith)) (eq-or-lt_of_le lo))
 
-  each_none : (left k : ℕ) → ((j : ℕ) → k ≤ j → j < k + left → offends_at x n cs j ≡ false) → first_command x n cs left k ≡ Nothing
+  each_none : (left k : ℕ) → ((j : ℕ) → k ≤ j → j < k + left → offends_at x n cs j ≡ false) → first_command x n cs left k ≡ None
   unfolding first_command
   each_none zero k f = refl
   each_none (suc left) k f = rw (f k (omega arith) (omega arith)) (each_none left (suc k) (λ j lo hi. f j (omega arith) (omega arith)))
 
-  first_at : (left k m : ℕ) → first_command x n cs left k ≡ At m → FirstAt x n cs left k m
+  first_at : (left k m : ℕ) → first_command x n cs left k ≡ Some m → FirstAt x n cs left k m
   unfolding first_command
   first_at zero k m e = let z : ◌≡◌ {A = ℕ} 0 1 = cc in absurd (omega arith)
   first_at (suc left) k m e =
       by_test (offends_at x n cs k)
       (λ b.
-      let z : At k ≡ At m = rw b at e in
+      let z : (Some k) ≡ Some m = rw b at e in
       let y : ◌≡◌ {A = ℕ} k m = cc in
       record { from = omega arith; to = omega arith; bad = rw y at b; fine = λ j lo hi. absurd (omega arith) })
       (λ b.
@@ -341,15 +338,19 @@ module _ (x : List ℕ) (n : ℕ) (cs : List ℕ) where
 pub record FirstIn (x file : List ℕ) (left n m k : ℕ) : Type 0 where
   pub from : n ≤ m
   pub to : m < n + left
-  pub found : in_object x file m ≡ At k
-  pub none : (j : ℕ) → n ≤ j → j < m → in_object x file j ≡ Nothing
+  pub found : in_object x file m ≡ Some k
+  pub none : (j : ℕ) → n ≤ j → j < m → in_object x file j ≡ None
+
+-- what an answer that was given holds
+ok_is : {A : Type 0} {a b : A} → ◌≡◌ {A = Result A Refusal} (Ok a) (Ok b) → a ≡ b
+ok_is e = cc
 
 module _ (x file : List ℕ) where
-  found_or_not : {A : Type 0} (f : Found) → ((k : ℕ) → f ≡ At k → A) → (f ≡ Nothing → A) → A
-  found_or_not (At k) p q = p k refl
-  found_or_not Nothing p q = q refl
+  found_or_not : {A : Type 0} (f : Option ℕ) → ((k : ℕ) → f ≡ Some k → A) → (f ≡ None → A) → A
+  found_or_not (Some k) p q = p k refl
+  found_or_not None p q = q refl
 
-  passed_each : (left n : ℕ) → first_object x file left n ≡ C.Passed → (j : ℕ) → n ≤ j → j < n + left → in_object x file j ≡ Nothing
+  passed_each : (left n : ℕ) → first_object x file left n ≡ C.Passed → (j : ℕ) → n ≤ j → j < n + left → in_object x file j ≡ None
   unfolding first_object
   passed_each zero n e j lo hi = absurd (omega arith)
   passed_each (suc left) n e j lo hi =
@@ -357,7 +358,7 @@ module _ (x file : List ℕ) where
       (λ k b. let z : C.Offends n k ≡ C.Passed = rw b at e in let y : ◌≡◌ {A = ℕ} 0 1 = cc in absurd (omega arith))
       (λ b. ⊎_elim (λ (q : n ≡ j). rw (← q) b) (λ (q : n < j). passed_each left (suc n) (rw b at e) j (omega arith) (omega arith)) (eq-or-lt_of_le lo))
 
-  each_passed : (left n : ℕ) → ((j : ℕ) → n ≤ j → j < n + left → in_object x file j ≡ Nothing) → first_object x file left n ≡ C.Passed
+  each_passed : (left n : ℕ) → ((j : ℕ) → n ≤ j → j < n + left → in_object x file j ≡ None) → first_object x file left n ≡ C.Passed
   unfolding first_object
   each_passed zero n f = refl
   each_passed (suc left) n f = rw (f n (omega arith) (omega arith)) (each_passed left (suc n) (λ j lo hi. f j (omega arith) (omega arith)))
@@ -383,20 +384,20 @@ module _ (x file : List ℕ) where
 
   -- The check of two readable files, and of two that are passed.
 
-  check_fine : indexVerdict x ≡ verdict.Fine → objectsVerdict file ≡ verdict.Fine → check_of x file ≡ first_object x file (count_of file) 0
+  check_fine : indexVerdict x ≡ Ok tt → objectsVerdict file ≡ Ok tt → check_of x file ≡ Ok (first_object x file (count_of file) 0)
   unfolding check_of
   check_fine i o = rw (i, o)
 
-  refused_or_not : {A : Type 0} (v : Verdict) → ((r : Refusal) → v ≡ verdict.Refused r → A) → (v ≡ verdict.Fine → A) → A
-  refused_or_not verdict.Fine p q = q refl
-  refused_or_not (verdict.Refused r) p q = p r refl
+  refused_or_not : {A : Type 0} (v : Verdict) → ((r : Refusal) → v ≡ Err r → A) → (v ≡ Ok tt → A) → A
+  refused_or_not (Ok u) p q = q refl
+  refused_or_not (Err r) p q = p r refl
 
-  pub passed_first : check_of x file ≡ C.Passed → first_object x file (count_of file) 0 ≡ C.Passed
+  pub passed_first : check_of x file ≡ Ok C.Passed → first_object x file (count_of file) 0 ≡ C.Passed
   unfolding check_of
   passed_first h =
       refused_or_not (first_of (indexVerdict x) (objectsVerdict file))
-      (λ r e. let z : C.Refused r ≡ C.Passed = rw e at h in let y : ◌≡◌ {A = ℕ} 0 1 = cc in absurd (omega arith))
-      (λ e. rw e at h)
+      (λ r e. let z : (Err r) ≡ Ok C.Passed = rw e at h in let y : ◌≡◌ {A = ℕ} 0 1 = cc in absurd (omega arith))
+      (λ e. ok_is (rw e at h))
 
   -- no command of a passed disc offends
   pub sound : first_object x file (count_of file) 0 ≡ C.Passed → (n k : ℕ) → n < count_of file → k < length (commands_of file n) / 12
@@ -405,7 +406,7 @@ module _ (x file : List ℕ) where
       none_each x (count_of file) (commands_of file n) (length (commands_of file n) / 12) 0
       (passed_each (count_of file) 0 h n (omega arith) (omega arith)) k (omega arith) (omega arith)
 
-  clean_object : count_of file < 65536 → Clean x file → (n : ℕ) → n < count_of file → in_object x file n ≡ Nothing
+  clean_object : count_of file < 65536 → Clean x file → (n : ℕ) → n < count_of file → in_object x file n ≡ None
   clean_object few clean n on =
       each_none x (count_of file) (commands_of file n) (length (commands_of file n) / 12) 0
       (λ k lo hi. by_test (offends_at x (count_of file) (commands_of file n) k)
@@ -435,7 +436,7 @@ exact x file i o bytes =
     record {
       passed = λ h n k bad.
           let b = offence_bad x file n k bad in
-          true_false (sym b.offends ∙ sound x file (sym e ∙ h) n k b.object b.command);
-      clean = λ clean. e ∙ each_passed x file (count_of file) 0 (λ n lo hi. clean_object x file few clean n (omega arith));
-      names = λ n k h. first_of_is x file few n k (sym e ∙ h);
+          true_false (sym b.offends ∙ sound x file (ok_is (sym e ∙ h)) n k b.object b.command);
+      clean = λ clean. e ∙ ap Ok (each_passed x file (count_of file) 0 (λ n lo hi. clean_object x file few clean n (omega arith)));
+      names = λ n k h. first_of_is x file few n k (ok_is (sym e ∙ h));
     }

@@ -11,12 +11,9 @@ use lib.Seq.{get_or-set_same, get_or-set_other}
 use borrow.Author.Tests.{le-ltb, lt-leb, ltb-false, leb-false}
 use Rattle.laws.specs.Cases.{either_way, by_test}
 use Rattle.error.specs.declared.Refusal.TheVariants.{NotAnEntry}
-use Rattle.error.specs.declared.Verdict.{Verdict}
-use Rattle.error.specs.declared.Verdict.TheVariants as verdict
+use Rattle.error.specs.Rules.{Verdict}
 use Rattle.error.specs.Laws.{both_fine}
 use Rattle.index_bdmv.specs.Rules.{resolve_of}
-use Rattle.index_bdmv.specs.declared.Lead.{Lead}
-use Rattle.index_bdmv.specs.declared.Lead.TheVariants as L
 use Rattle.movie_object.specs.Rules.{count_of, commands_of}
 use Rattle.session.specs.declared.Session.{Session}
 use Rattle.session.specs.declared.Budgets.{Budgets}
@@ -40,8 +37,6 @@ use Rattle.mobj_runner.specs.declared.Follow.TheVariants as F
 use Rattle.mobj_runner.specs.Rules.{World, world, moved, asked, follows, returned, jumped, called, acted, turn_of, drive_of, continued, ended}
 use Rattle.nav_driver.specs.declared.DriveOutcome.TheVariants as D
 use Rattle.nav_driver.specs.declared.DriveEnd.{DriveEnd}
-use Rattle.nav_driver.specs.declared.DriveAnswer.{DriveAnswer}
-use Rattle.nav_driver.specs.declared.DriveAnswer.TheVariants as A
 use Rattle.nav_driver.specs.declared.Follow.{Follow as TitleFollow}
 use Rattle.nav_driver.specs.declared.Follow.TheVariants as N
 use Rattle.nav_driver.specs.declared.Turn.{Turn as TitleTurn}
@@ -53,6 +48,8 @@ use Rattle.nav_driver.specs.Rules as driver
 use Rattle.disc_check.specs.Rules.{led_nowhere, leads_nowhere, offends_at}
 use Rattle.disc_check.specs.Promise.{lacks, asking, NotBad, NeverBadAnswer, Good, Driven, started, resumed, NeverBad}
 use Rattle.disc_check.proofs.Exact.{true_false, step_fine, sound, passed_first}
+use Rattle.std.specs.Prelude.{Err, None, Ok, Option, Result, Some}
+use Rattle.error.specs.declared.Refusal.{Refusal}
 
 -- The live frames: the last one and those below it, and what a push leaves.
 
@@ -280,15 +277,15 @@ unfolding entered objects_live
 enter_safe p f t n s e o h he l r =
     rw h (record { here = leb-false n o h; objects = refl; object_rooms = omega arith; titles = l; title_rooms = r; entry = he })
 
-jump_led_safe : (p f t : List ℕ) (n : ℕ) (s : Session) (e : ℕ) (l : Lead) → led_nowhere n l ≡ false → e ≤ 65537 → Good n f t s
+jump_led_safe : (p f t : List ℕ) (n : ℕ) (s : Session) (e : ℕ) (l : Option ℕ) → led_nowhere n l ≡ false → e ≤ 65537 → Good n f t s
     → SafeTitle n f (jump_led p n s e l).turn t
-jump_led_safe p f t n s e L.Nothing h he good = true_false h
-jump_led_safe p f t n s e (L.Object o) h he good = enter_safe p f t n s e o h he good.titles good.title_rooms
+jump_led_safe p f t n s e None h he good = true_false h
+jump_led_safe p f t n s e (Some o) h he good = enter_safe p f t n s e o h he good.titles good.title_rooms
 
-call_led_safe : (p f t : List ℕ) (n : ℕ) (s : Session) (e : ℕ) (l : Lead) → led_nowhere n l ≡ false → e ≤ 65537 → Good n f t s
+call_led_safe : (p f t : List ℕ) (n : ℕ) (s : Session) (e : ℕ) (l : Option ℕ) → led_nowhere n l ≡ false → e ≤ 65537 → Good n f t s
     → SafeTitle n f (call_led p t n s e l).turn (call_led p t n s e l).titles
-call_led_safe p f t n s e L.Nothing h he good = true_false h
-call_led_safe p f t n s e (L.Object o) h he good =
+call_led_safe p f t n s e None h he good = true_false h
+call_led_safe p f t n s e (Some o) h he good =
     by_test (leb (title_room t) s.tdepth)
     (λ e2. rw e2 (tt, good))
     (λ e2.
@@ -367,13 +364,13 @@ enter_long : (p : List ℕ) (n : ℕ) (s : Session) (e o : ℕ) → length (ente
 unfolding entered
 enter_long p n s e o = length-set p 4 (title_value e)
 
-jump_led_long : (p : List ℕ) (n : ℕ) (s : Session) (e : ℕ) (l : Lead) → length (jump_led p n s e l).status ≡ length p
-jump_led_long p n s e L.Nothing = refl
-jump_led_long p n s e (L.Object o) = enter_long p n s e o
+jump_led_long : (p : List ℕ) (n : ℕ) (s : Session) (e : ℕ) (l : Option ℕ) → length (jump_led p n s e l).status ≡ length p
+jump_led_long p n s e None = refl
+jump_led_long p n s e (Some o) = enter_long p n s e o
 
-call_led_long : (p t : List ℕ) (n : ℕ) (s : Session) (e : ℕ) (l : Lead) → length (call_led p t n s e l).status ≡ length p
-call_led_long p t n s e L.Nothing = refl
-call_led_long p t n s e (L.Object o) =
+call_led_long : (p t : List ℕ) (n : ℕ) (s : Session) (e : ℕ) (l : Option ℕ) → length (call_led p t n s e l).status ≡ length p
+call_led_long p t n s e None = refl
+call_led_long p t n s e (Some o) =
     by_test (leb (title_room t) s.tdepth) (λ b. rw b) (λ b. rw b (enter_long p n (deeper s) e o))
 
 act_long : (p t x : List ℕ) (n : ℕ) (s : Session) (left : ℕ) (next : TitleFollow) → length (driver.acted p t x n s left next).status ≡ length p
@@ -425,11 +422,11 @@ module _ (x file : List ℕ) (sound : Sound x file) (b : Budgets) where
       continue_title_safe (count_of file) (driver.turn_of x file b (suc left) w).it (driver.turn_of x file b (suc left) w) (titles_of x file b left) h.0 h.1
       (λ v g z. titles_safe left v g z)
 
-  led_safe : (e : ℕ) (w : Rooms Session) (l : Lead) → e ≤ 65537 → led_nowhere (count_of file) l ≡ false → Sized 4096 128 w.regs
+  led_safe : (e : ℕ) (w : Rooms Session) (l : Option ℕ) → e ≤ 65537 → led_nowhere (count_of file) l ≡ false → Sized 4096 128 w.regs
       → SafeDrive (count_of file) (start_led x file b e w l)
   unfolding titles_live
-  led_safe e w L.Nothing he h sized = true_false h
-  led_safe e w (L.Object o) he h sized =
+  led_safe e w None he h sized = true_false h
+  led_safe e w (Some o) he h sized =
       let p = w.regs.status in
       continue_title_safe (count_of file) (entered p (count_of file) (cleared w.it) e o).turn
       (arrived w (entered p (count_of file) (cleared w.it) e o)) (titles_of x file b b.titles)
@@ -442,34 +439,34 @@ module _ (x file : List ℕ) (sound : Sound x file) (b : Budgets) where
 -- the registers are 4,096 and 128 numbers, and the start is one
 pub record Handed (start : Start) (w : Rooms Session) : Type 0 where
   pub sized : Sized 4096 128 w.regs
-  pub begins : start_verdict start ≡ verdict.Fine
+  pub begins : start_verdict start ≡ Ok tt
 
-handed : (x file : List ℕ) (b : Budgets) (start : Start) (w : Rooms Session) → verdict_for x file b start w ≡ verdict.Fine → Handed start w
+handed : (x file : List ℕ) (b : Budgets) (start : Start) (w : Rooms Session) → verdict_for x file b start w ≡ Ok tt → Handed start w
 unfolding verdict_for
 handed x file b start w h =
     let one = both_fine (buffers_verdict w.regs.general w.regs.status w.frames w.titles) _ h in
     let two = both_fine (budgets_verdict b) _ one.1 in
     record { sized = buffers_banks w.regs.general w.regs.status w.frames w.titles one.0; begins = (both_fine (start_verdict start) _ two.1).0 }
 
-entry_low : (e : ℕ) → start_verdict (Entry e) ≡ verdict.Fine → e ≤ 65537
+entry_low : (e : ℕ) → start_verdict (Entry e) ≡ Ok tt → e ≤ 65537
 unfolding entry_verdict
 entry_low e h =
     by_test (ltb 65537 e)
-    (λ b. let z : verdict.Refused NotAnEntry ≡ verdict.Fine = rw b at h in let y : ◌≡◌ {A = ℕ} 0 1 = cc in absurd (omega arith))
+    (λ b. let z : (Err NotAnEntry) ≡ Ok tt = rw b at h in let y : ◌≡◌ {A = ℕ} 0 1 = cc in absurd (omega arith))
     (λ b. ltb-false 65537 e b)
 
-abbrev SafeAnswer : ℕ → DriveAnswer → List ℕ → List ℕ → Type 0
-SafeAnswer n (A.Refused r) f t = Unit {0}
-SafeAnswer n (A.Drove d) f t = NotBad d.outcome × Good n f t d.session
+abbrev SafeAnswer : ℕ → Result DriveEnd Refusal → List ℕ → List ℕ → Type 0
+SafeAnswer n (Err r) f t = Unit {0}
+SafeAnswer n (Ok d) f t = NotBad d.outcome × Good n f t d.session
 
-answered_safe : (n : ℕ) (v : Verdict) (d : Rooms DriveEnd) (w : Rooms Session) → (v ≡ verdict.Fine → SafeDrive n d)
+answered_safe : (n : ℕ) (v : Verdict) (d : Rooms DriveEnd) (w : Rooms Session) → (v ≡ Ok tt → SafeDrive n d)
     → SafeAnswer n (answered v d w).it (answered v d w).frames (answered v d w).titles
-answered_safe n verdict.Fine d w h = h refl
-answered_safe n (verdict.Refused r) d w h = tt
+answered_safe n (Ok u) d w h = h refl
+answered_safe n (Err r) d w h = tt
 
-not_bad : (n : ℕ) (a : DriveAnswer) (f t : List ℕ) → SafeAnswer n a f t → NeverBadAnswer a
-not_bad n (A.Refused r) f t h = tt
-not_bad n (A.Drove d) f t h = h.0
+not_bad : (n : ℕ) (a : Result DriveEnd Refusal) (f t : List ℕ) → SafeAnswer n a f t → NeverBadAnswer a
+not_bad n (Err r) f t h = tt
+not_bad n (Ok d) f t h = h.0
 
 module _ (x file : List ℕ) (sound : Sound x file) where
   run_safe : (b : Budgets) (e : ℕ) (w : Rooms Session) → leads_nowhere x (count_of file) e ≡ false
@@ -499,7 +496,7 @@ module _ (x file : List ℕ) (sound : Sound x file) where
   driven_good s f t (resumed b s₀ r f₀ t₀ d before q) = (rw q at (resume_safe b (rooms s₀ r f₀ t₀) (driven_good s₀ f₀ t₀ before))).1
 
 -- a good session is never refused
-accepted : (f t : List ℕ) (n : ℕ) (s : Session) → Good n f t s → session_verdict f t n s s.pending ≡ verdict.Fine
+accepted : (f t : List ℕ) (n : ℕ) (s : Session) → Good n f t s → session_verdict f t n s s.pending ≡ Ok tt
 unfolding session_verdict live_verdict
 accepted f t n s good =
     rw (le-ltb (object_room f) s.odepth good.object_rooms, le-ltb (title_room t) s.tdepth good.title_rooms, le-ltb 65537 s.entry good.entry)

@@ -1,6 +1,5 @@
 -- Demand 3: which discs the check passes, and what a passed disc never does. Assumes nothing.
-use Rattle.std.specs.Prelude.{◌≡◌, Bool, true, false, List, ◌⊎◌, ℕ, ◌%◌, ◌^◌, ◌<◌, ◌≤◌, leb, length, get_or}
-use Rattle.error.specs.declared.Verdict.TheVariants.{Fine}
+use Rattle.std.specs.Prelude.{◌≡◌, Bool, true, false, List, ◌⊎◌, ℕ, ◌%◌, ◌^◌, ◌<◌, ◌≤◌, leb, length, get_or, Err, Ok, Result}
 use Rattle.index_bdmv.specs.Rules.{verdict_of as indexVerdict}
 use Rattle.movie_object.specs.Rules.{count_of, commands_of, verdict_of as objectsVerdict}
 use Rattle.session.specs.declared.Session.{Session}
@@ -14,12 +13,11 @@ use Rattle.vm.specs.Rules.{Banks, step_of}
 use Rattle.nav_driver.specs.declared.DriveOutcome.{DriveOutcome}
 use Rattle.nav_driver.specs.declared.DriveOutcome.TheVariants as D
 use Rattle.nav_driver.specs.declared.DriveEnd.{DriveEnd}
-use Rattle.nav_driver.specs.declared.DriveAnswer.{DriveAnswer}
-use Rattle.nav_driver.specs.declared.DriveAnswer.TheVariants.{Refused, Drove}
 use Rattle.nav_driver.specs.declared.Start.TheVariants.{Entry, Here}
 use Rattle.nav_driver.specs.Rules.{Rooms, rooms, answer_of}
 use Rattle.disc_check.specs.declared.DiscCheck.TheVariants.{Passed, Offends}
 use Rattle.disc_check.specs.Rules.{leads_nowhere, check_of}
+use Rattle.error.specs.declared.Refusal.{Refusal}
 
 -- What a request asks for that a disc of n objects lacks: an object, or a title that leads to no object of the disc.
 abbrev pub lacks : List ℕ → ℕ → NavRequest → Bool
@@ -69,12 +67,12 @@ pub record First (x file : List ℕ) (n k : ℕ) : Type 0 where
 
 -- The check passes two readable files exactly if no command offends, and else names the first that does.
 pub record Exactly (x file : List ℕ) : Type 0 where
-  pub passed : check_of x file ≡ Passed → Clean x file
-  pub clean : Clean x file → check_of x file ≡ Passed
-  pub names : (n k : ℕ) → check_of x file ≡ Offends n k → First x file n k
+  pub passed : check_of x file ≡ Ok Passed → Clean x file
+  pub clean : Clean x file → check_of x file ≡ Ok Passed
+  pub names : (n k : ℕ) → check_of x file ≡ Ok (Offends n k) → First x file n k
 
 abbrev pub Exact : Type 0
-Exact = (x file : List ℕ) → indexVerdict x ≡ Fine → objectsVerdict file ≡ Fine → ((i : ℕ) → get_or file i 0 < 256) → Exactly x file
+Exact = (x file : List ℕ) → indexVerdict x ≡ Ok tt → objectsVerdict file ≡ Ok tt → ((i : ℕ) → get_or file i 0 < 256) → Exactly x file
 
 -- Neither bad object nor bad title.
 
@@ -88,9 +86,9 @@ NotBad D.BudgetExhausted = Unit {0}
 NotBad D.ObjectStackFull = Unit {0}
 NotBad D.TitleStackFull = Unit {0}
 
-abbrev pub NeverBadAnswer : DriveAnswer → Type 0
-NeverBadAnswer (Refused r) = Unit {0}
-NeverBadAnswer (Drove d) = NotBad d.outcome
+abbrev pub NeverBadAnswer : Result DriveEnd Refusal → Type 0
+NeverBadAnswer (Err r) = Unit {0}
+NeverBadAnswer (Ok d) = NotBad d.outcome
 
 -- The sessions that a drive passes through: all their objects are on the disc, entries are entries, depths lie within the rooms.
 pub record Good (n : ℕ) (f t : List ℕ) (s : Session) : Type 0 where
@@ -104,10 +102,10 @@ pub record Good (n : ℕ) (f t : List ℕ) (s : Session) : Type 0 where
 -- What a run from an entry that leads to an object leaves, and resumes after it, with any registers, budgets and frame room.
 pub data Driven (x file : List ℕ) : Session → List ℕ → List ℕ → Type 0 where
   started : (b : Budgets) (e : ℕ) (w : Rooms Session) (d : DriveEnd) → leads_nowhere x (count_of file) e ≡ false
-      → (answer_of x file b (Entry e) w).it ≡ Drove d
+      → (answer_of x file b (Entry e) w).it ≡ Ok d
       → Driven x file d.session (answer_of x file b (Entry e) w).frames (answer_of x file b (Entry e) w).titles
   resumed : (b : Budgets) (s : Session) (r : Banks) (f t : List ℕ) (d : DriveEnd) → Driven x file s f t
-      → (answer_of x file b Here (rooms s r f t)).it ≡ Drove d
+      → (answer_of x file b Here (rooms s r f t)).it ≡ Ok d
       → Driven x file d.session (answer_of x file b Here (rooms s r f t)).frames (answer_of x file b Here (rooms s r f t)).titles
 
 -- A passed disc: no run from such an entry and no later resume is bad; every session on the way is good, and never refused.
@@ -115,7 +113,7 @@ pub record Promise (x file : List ℕ) : Type 0 where
   pub runs : (b : Budgets) (e : ℕ) (w : Rooms Session) → leads_nowhere x (count_of file) e ≡ false → NeverBadAnswer (answer_of x file b (Entry e) w).it
   pub resumes : (b : Budgets) (s : Session) (r : Banks) (f t : List ℕ) → Driven x file s f t → NeverBadAnswer (answer_of x file b Here (rooms s r f t)).it
   pub good : (s : Session) (f t : List ℕ) → Driven x file s f t → Good (count_of file) f t s
-  pub accepted : (s : Session) (f t : List ℕ) → Driven x file s f t → session_verdict f t (count_of file) s s.pending ≡ Fine
+  pub accepted : (s : Session) (f t : List ℕ) → Driven x file s f t → session_verdict f t (count_of file) s s.pending ≡ Ok tt
 
 abbrev pub NeverBad : Type 0
-NeverBad = (x file : List ℕ) → check_of x file ≡ Passed → Promise x file
+NeverBad = (x file : List ℕ) → check_of x file ≡ Ok Passed → Promise x file

@@ -1,11 +1,7 @@
 -- What the disc check computes (document 01, the check); that it should is specs/Promise.antt. Assumes nothing.
-use Rattle.std.specs.Prelude.{Bool, true, false, cond, List, ℕ, zero, suc, ◌*◌, ◌/◌, ◌%◌, leb, ltb, length}
-use Rattle.error.specs.declared.Verdict.{Verdict}
-use Rattle.error.specs.declared.Verdict.TheVariants as verdict
-use Rattle.error.specs.Rules.{first_of}
+use Rattle.std.specs.Prelude.{Bool, true, false, cond, List, ℕ, zero, suc, ◌*◌, ◌/◌, ◌%◌, leb, ltb, length, None, Option, Result, Some}
+use Rattle.error.specs.Rules.{first_of, given}
 use Rattle.index_bdmv.specs.Rules.{resolve_of, verdict_of as indexVerdict}
-use Rattle.index_bdmv.specs.declared.Lead.{Lead}
-use Rattle.index_bdmv.specs.declared.Lead.TheVariants as L
 use Rattle.movie_object.specs.Rules.{count_of, commands_of, verdict_of as objectsVerdict}
 use Rattle.nav_command.specs.Rules.{command_of}
 use Rattle.nav_command.specs.declared.BranchOp.{BranchOp}
@@ -23,8 +19,7 @@ use Rattle.disc_check.specs.declared.DiscCheck.{DiscCheck}
 use Rattle.disc_check.specs.declared.DiscCheck.TheVariants as C
 use Rattle.disc_check.specs.declared.Reach.{Reach}
 use Rattle.disc_check.specs.declared.Reach.TheVariants.{Always, Anything}
-use Rattle.disc_check.specs.declared.Found.{Found}
-use Rattle.disc_check.specs.declared.Found.TheVariants.{At, Nothing}
+use Rattle.error.specs.declared.Refusal.{Refusal}
 
 -- The values that an operand can have: a register that there is can hold anything, and all else reads the same always.
 
@@ -40,9 +35,9 @@ reach_of (Register PsrSecondary i) = register_reach i 128
 
 -- A title leads to an object of the disc if it resolves and that object is on the disc.
 
-abbrev pub led_nowhere : ℕ → Lead → Bool
-led_nowhere n L.Nothing = true
-led_nowhere n (L.Object o) = leb n o
+abbrev pub led_nowhere : ℕ → Option ℕ → Bool
+led_nowhere n None = true
+led_nowhere n (Some o) = leb n o
 
 unfoldable pub leads_nowhere : List ℕ → ℕ → ℕ → Bool
 leads_nowhere x n title = led_nowhere n (resolve_of x title)
@@ -94,15 +89,15 @@ offends_at x n cs k = command_offends x n (command_of (fetched cs (12 * k)))
 
 -- The first of so many commands from k on, and of so many objects from n on.
 
-unfoldable pub first_command : List ℕ → ℕ → List ℕ → ℕ → ℕ → Found
-first_command x n cs zero k = Nothing
-first_command x n cs (suc left) k = cond (offends_at x n cs k) (At k) (first_command x n cs left (suc k))
+unfoldable pub first_command : List ℕ → ℕ → List ℕ → ℕ → ℕ → Option ℕ
+first_command x n cs zero k = None
+first_command x n cs (suc left) k = cond (offends_at x n cs k) (Some k) (first_command x n cs left (suc k))
 
-abbrev pub or_else : Found → ℕ → DiscCheck → DiscCheck
-or_else (At k) n rest = C.Offends n k
-or_else Nothing n rest = rest
+abbrev pub or_else : Option ℕ → ℕ → DiscCheck → DiscCheck
+or_else (Some k) n rest = C.Offends n k
+or_else None n rest = rest
 
-abbrev pub in_object : List ℕ → List ℕ → ℕ → Found
+abbrev pub in_object : List ℕ → List ℕ → ℕ → Option ℕ
 in_object x file n = first_command x (count_of file) (commands_of file n) (length (commands_of file n) / 12) 0
 
 unfoldable pub first_object : List ℕ → List ℕ → ℕ → ℕ → DiscCheck
@@ -111,9 +106,5 @@ first_object x file (suc left) n = or_else (in_object x file n) n (first_object 
 
 -- The refusals of the files in their order: index, then objects.
 
-abbrev pub unless_refused : Verdict → DiscCheck → DiscCheck
-unless_refused verdict.Fine c = c
-unless_refused (verdict.Refused r) c = C.Refused r
-
-unfoldable pub check_of : List ℕ → List ℕ → DiscCheck
-check_of x file = unless_refused (first_of (indexVerdict x) (objectsVerdict file)) (first_object x file (count_of file) 0)
+unfoldable pub check_of : List ℕ → List ℕ → Result DiscCheck Refusal
+check_of x file = given (first_of (indexVerdict x) (objectsVerdict file)) (first_object x file (count_of file) 0)

@@ -1,47 +1,38 @@
 // The disc check: whether a command on the disc can ask for what the disc lacks. Added by design; the Rust has none.
 #![tactic(auto)]
 
-ghost use Rattle.std.specs.Prelude.{◌≡◌, ◌+◌, ◌*◌, ◌/◌, ◌≤◌, length};
-ghost use Rattle.error.specs.declared.Verdict.TheVariants.{Fine};
-ghost use Rattle.index_bdmv.specs.Rules.{verdict_of as indexVerdict};
-ghost use Rattle.movie_object.specs.Rules.{count_of, verdict_of as objectsVerdict};
-ghost use Rattle.movie_object.specs.Pieces.{Placed};
+ghost use Rattle.std.specs.Prelude.{◌≡◌, ◌/◌, ◌≤◌, length};
+ghost use Rattle.movie_object.specs.Rules.{count_of};
 ghost use Rattle.disc_check.specs.Rules.{register_reach, reach_of, object_offends, leads_nowhere, title_offends, operation_offends, branch_offends, command_offends, first_command, first_object, check_of};
 ghost use Rattle.disc_check.specs.Promise.{Exact, NeverBad};
 
-use error::{Refusal, Verdict};
-use index_bdmv::Lead;
+use error::Refusal;
 use nav_command::{BranchOp, CommandGroup, DecodedCommand, Operand, Operation, RegisterBank};
+use nav_driver::Disc;
 
-// What the check finds: nothing, or the first offending command in file order.
-#[derive(Drop)]
+// What the check finds: nothing, or the first offending command in file order. No Option: None would have to say that a disc passes.
+#[derive(Clone, Copy, Debug, PartialEq, Eq)]
 pub enum DiscCheck {
-    Refused(Refusal),
     Passed,
     Offends { object: u32, command: u32 },
 }
 
-// The values that an operand can have, whatever the registers hold.
-#[derive(Drop)]
+// The values that an operand can have, whatever the registers hold. No Option: None would have to say that it can have any.
+#[derive(Clone, Copy)]
 enum Reach {
     Always(u32),
     Anything,
 }
 
-// The first offending command of an object, if there is one.
-#[derive(Drop)]
-pub enum Found {
-    At(u32),
-    Nothing,
-}
-
+#[tactic(auto, unfolding(crate::specs::Rules::register_reach))]
 fn within(index: u16, size: u16) -> Reach
     ensures { result ≡ register_reach index size }
 {
     if index < size {
-        return Reach::Anything;
+        Reach::Anything
+    } else {
+        Reach::Always(0)
     }
-    Reach::Always(0)
 }
 
 fn reach_of(a: Operand) -> Reach
@@ -52,156 +43,117 @@ fn reach_of(a: Operand) -> Reach
         Operand::Immediate(value) => Reach::Always(value),
         Operand::Register { bank, index } => match bank {
             RegisterBank::Gpr => within(index, 4096),
-            RegisterBank::Psr => within(index, 128),
-            RegisterBank::PsrSecondary => within(index, 128),
+            RegisterBank::Psr | RegisterBank::PsrSecondary => within(index, 128),
         },
     }
 }
 
 // An object that the disc lacks can be asked for.
-fn object_offends(count: u32, r: Reach) -> bool
-    ensures { result ≡ object_offends count r }
+fn object_offends(disc: &Disc, r: Reach) -> bool
+    ensures { result ≡ object_offends (count_of disc.now.objects) r }
 {
     match r {
-        Reach::Always(object) => count <= object,
+        Reach::Always(object) => disc.objects.count() <= object,
         Reach::Anything => true,
     }
 }
 
 // A title that leads to no object of the disc can be asked for; register contents can always name title 0.
-fn title_offends(index: &[u8], count: u32, r: Reach) -> bool
-    requires { indexVerdict index.now ≡ Fine }
-    ensures { result ≡ title_offends index.now count r }
+fn title_offends(disc: &Disc, r: Reach) -> bool
+    ensures { result ≡ title_offends disc.now.index (count_of disc.now.objects) r }
 {
     match r {
-        Reach::Always(title) => leads_nowhere(index, count, title % 65536),
+        Reach::Always(title) => leads_nowhere(disc, title % 65536),
         Reach::Anything => true,
     }
 }
 
-fn leads_nowhere(index: &[u8], count: u32, title: u32) -> bool
-    requires { indexVerdict index.now ≡ Fine }
-    ensures { result ≡ leads_nowhere index.now count title }
+#[tactic(auto, unfolding(crate::specs::Rules::leads_nowhere))]
+fn leads_nowhere(disc: &Disc, title: u32) -> bool
+    ensures { result ≡ leads_nowhere disc.now.index (count_of disc.now.objects) title }
 {
-    match index_bdmv::resolve(index, title) {
-        Lead::Object(object) => count <= object as u32,
-        Lead::Nothing => true,
+    match disc.index.resolve(title) {
+        Some(object) => disc.objects.count() <= u32::from(object),
+        None => true,
     }
 }
 
-fn branch_offends(index: &[u8], count: u32, op: BranchOp, r: Reach) -> bool
-    requires { indexVerdict index.now ≡ Fine }
-    ensures { result ≡ branch_offends index.now count op r }
+fn branch_offends(disc: &Disc, op: BranchOp, r: Reach) -> bool
+    ensures { result ≡ branch_offends disc.now.index (count_of disc.now.objects) op r }
 {
     match op {
-        BranchOp::JumpObject => object_offends(count, r),
-        BranchOp::CallObject => object_offends(count, r),
-        BranchOp::JumpTitle => title_offends(index, count, r),
-        BranchOp::CallTitle => title_offends(index, count, r),
-        BranchOp::Nop => false,
-        BranchOp::GoTo => false,
-        BranchOp::Break => false,
-        BranchOp::Resume => false,
-        BranchOp::PlayPL => false,
-        BranchOp::PlayPLatPlayItem => false,
-        BranchOp::PlayPLatMark => false,
-        BranchOp::TerminatePL => false,
-        BranchOp::LinkPI => false,
-        BranchOp::LinkMK => false,
+        BranchOp::JumpObject | BranchOp::CallObject => object_offends(disc, r),
+        BranchOp::JumpTitle | BranchOp::CallTitle => title_offends(disc, r),
+        _ => false,
     }
 }
 
-fn operation_offends(index: &[u8], count: u32, operation: Operation, a: Operand) -> bool
-    requires { indexVerdict index.now ≡ Fine }
-    ensures { result ≡ operation_offends index.now count operation a }
+fn operation_offends(disc: &Disc, operation: Operation, a: Operand) -> bool
+    ensures { result ≡ operation_offends disc.now.index (count_of disc.now.objects) operation a }
 {
     match operation {
-        Operation::Branch(op) => branch_offends(index, count, op, reach_of(a)),
-        Operation::Compare(_) => false,
-        Operation::Set(_) => false,
-        Operation::System(_) => false,
-        Operation::Unknown {
-            sub_grp: _,
-            selector: _,
-        } => false,
+        Operation::Branch(op) => branch_offends(disc, op, reach_of(a)),
+        _ => false,
     }
 }
 
 // Whether a command can ask, with some register contents, for what the disc lacks.
-fn command_offends(index: &[u8], count: u32, command: DecodedCommand) -> bool
-    requires { indexVerdict index.now ≡ Fine }
-    ensures { result ≡ command_offends index.now count command }
+#[tactic(auto, unfolding(crate::specs::Rules::command_offends))]
+fn command_offends(disc: &Disc, command: DecodedCommand) -> bool
+    ensures { result ≡ command_offends disc.now.index (count_of disc.now.objects) command }
 {
-    let group = command.group;
-    let operation = command.operation;
-    let a = command.operand1;
-    match group {
-        CommandGroup::Branch => operation_offends(index, count, operation, a),
-        CommandGroup::Compare => false,
-        CommandGroup::Set => false,
-        CommandGroup::Reserved(_) => false,
+    match command.group {
+        CommandGroup::Branch => operation_offends(disc, command.operation, command.operand1),
+        _ => false,
     }
 }
 
-fn first_command(index: &[u8], count: u32, commands: &[u8]) -> Found
-    requires { (indexVerdict index.now ≡ Fine) × (length commands.now ≤ 16777216) }
-    ensures { result ≡ first_command index.now count commands.now (length commands.now / 12) 0 }
+// The first offending command of an object, if there is one.
+#[tactic(auto, using(crate::proofs::Walk::at_start, crate::proofs::Walk::command_end, crate::proofs::Walk::command_found, crate::proofs::Walk::command_passed))]
+fn first_command(disc: &Disc, commands: &[u8]) -> Option<u32>
+    requires { length commands.now / 12 ≤ 1398101 }
+    ensures { result ≡ first_command disc.now.index (count_of disc.now.objects) commands.now (length commands.now / 12) 0 }
 {
-    let number = commands.len() / 12;
-    let mut k: usize = 0;
-    while k < number {
+    for k in 0..commands.len() / 12 {
         let bytes = vm::fetch(commands, 12 * k);
-        if command_offends(index, count, DecodedCommand::decode(&bytes)) {
-            return Found::At(k as u32);
+        if command_offends(disc, DecodedCommand::decode(&bytes)) {
+            return Some(k as u32);
         }
-        k += 1;
     }
-    Found::Nothing
+    None
 }
 
-fn first_object(index: &[u8], file: &[u8], places: &[u32], count: u32) -> DiscCheck
-    requires { (count ≡ count_of file.now) × (indexVerdict index.now ≡ Fine) × (objectsVerdict file.now ≡ Fine)
-        × Placed file.now places.now }
-    ensures { result ≡ first_object index.now file.now count 0 }
+#[tactic(auto, using(crate::proofs::Walk::at_start, crate::proofs::Walk::object_end, crate::proofs::Walk::object_found, crate::proofs::Walk::object_passed))]
+fn first_object(disc: &Disc) -> DiscCheck
+    ensures { result ≡ first_object disc.now.index disc.now.objects (count_of disc.now.objects) 0 }
 {
-    let mut n: u32 = 0;
-    while n < count {
-        let commands = movie_object::commands_at(file, places, n);
-        let found = first_command(index, count, commands);
-        if let Found::At(command) = found {
-            return DiscCheck::Offends { object: n, command };
+    for object in 0..disc.objects.count() {
+        if let Some(command) = first_command(disc, disc.objects.commands(object)) {
+            return DiscCheck::Offends { object, command };
         }
-        n += 1;
     }
     DiscCheck::Passed
 }
 
-fn check_with(index: &[u8], file: &[u8], places: &mut [u32]) -> DiscCheck
+#[tactic(auto, unfolding(crate::specs::Rules::check_of))]
+fn check_with(index: &[u8], file: &[u8], places: &mut [u32]) -> Result<DiscCheck, Refusal>
     requires { count_of file.now ≤ length places.old }
     ensures { result ≡ check_of index.now file.now }
 {
-    let entries = index_bdmv::verdict(index);
-    if let Verdict::Refused(refusal) = entries {
-        return DiscCheck::Refused(refusal);
-    }
-    let objects = movie_object::walk_places(file, places);
-    if let Verdict::Refused(refusal) = objects {
-        return DiscCheck::Refused(refusal);
-    }
-    let count = movie_object::count_of(file);
-    first_object(index, file, places, count)
+    let disc = Disc::read(index, file, places)?;
+    Ok(first_object(&disc))
 }
 
 // Checks the two files of a disc: every command counts, whether or not a run would meet it.
-pub fn check(index: &[u8], file: &[u8]) -> DiscCheck
+#[tactic(auto, using(mobj_runner::specs::Laws::count_small))]
+pub fn check(index: &[u8], file: &[u8]) -> Result<DiscCheck, Refusal>
     ensures { result ≡ check_of index.now file.now }
 {
     if movie_object::object_count(file) <= 1024 {
-        let mut few = [0u32; 1024];
-        return check_with(index, file, &mut few);
+        check_with(index, file, &mut [0; 1024])
+    } else {
+        check_with(index, file, &mut [0; 65536])
     }
-    let mut many = [0u32; 65536];
-    check_with(index, file, &mut many)
 }
 
 // Demand 3: the check names the first command that, with some registers, asks for what the disc lacks, and else passes.

@@ -1,33 +1,52 @@
 // Drives a disc: runs it from an entry, answers every play and request with a resume, and says how each call ended.
 #![tactic(auto)]
 
-use console::{say, say_number};
-use error::{Refusal, Verdict};
-use nav_driver::{DriveAnswer, DriveEnd, DriveOutcome, Option32, PlayRequest};
+use console::{Decimal, Refused};
+use error::Refusal;
+use nav_driver::{DriveEnd, DriveOutcome, PlayRequest};
 use numbers::Request;
 use registers::Registers;
 use session::{Budgets, Session};
 use std::env::Env;
-use std::io;
 use std::io::{Eprint, Print};
 use std::rt::Files;
+use std::{fmt, io};
 
-// What the command line asks for, and whether all of it was understood.
-#[derive(Drop)]
+// What the command line asks for beside registers.
+#[derive(Clone, Copy)]
 struct Options {
     entry: u32,
-    steps: u32,
-    objects: u32,
-    titles: u32,
+    budgets: Budgets,
     resumes: u32,
-    understood: bool,
 }
 
-// How a call ended: refused, with whether it was for one of the two files, or with what it left.
+// One option of the command line.
+#[derive(Clone, Copy)]
+enum Setting {
+    Entry(u32),
+    Steps(u32),
+    Objects(u32),
+    Titles(u32),
+    Resumes(u32),
+    General(u16, u32),
+    Status(u16, u32),
+}
+
+// The two files of a disc.
+#[derive(Clone, Copy)]
+struct Disc<'a> {
+    index: &'a [u8],
+    file: &'a [u8],
+}
+
+// A disc, and the rooms that its drive is lent.
 #[derive(Drop)]
-enum Ended {
-    Refused(bool),
-    With(DriveEnd),
+struct Player<'a> {
+    disc: Disc<'a>,
+    gpr: &'a mut [u32],
+    psr: &'a mut [u32],
+    frames: &'a mut [u32],
+    titles: &'a mut [u32],
 }
 
 fn main(rt: HostRuntime) -> io::Result<()> {
@@ -39,26 +58,14 @@ fn main(rt: HostRuntime) -> io::Result<()> {
 }
 
 fn print_usage(rt: &impl Print) -> io::Result<()> {
-    say(rt, b"usage: drive INDEX.BDMV MOVIEOBJECT.BDMV [OPTION..]\n")?;
-    say(
-        rt,
-        b"  entry=N: title N, 65536 first playback (as without it), 65537 top menu\n",
-    )?;
-    say(
-        rt,
-        b"  steps=N objects=N titles=N: the budgets, at most 1000000, 100000 and 10000\n",
-    )?;
-    say(
-        rt,
-        b"  resumes=N: how many plays and requests are answered, 100 without it\n",
-    )?;
-    say(
-        rt,
-        b"  rN=V sets general register N, pN=V status register N\n",
-    )
+    println!(rt; "usage: drive INDEX.BDMV MOVIEOBJECT.BDMV [OPTION..]")?;
+    println!(rt; "  entry=N: title N, 65536 first playback (as without it), 65537 top menu")?;
+    println!(rt; "  steps=N objects=N titles=N: the budgets, at most 1000000, 100000 and 10000")?;
+    println!(rt; "  resumes=N: how many plays and requests are answered, 100 without it")?;
+    println!(rt; "  rN=V sets general register N, pN=V status register N")
 }
 
-// Room for the files, the registers and the frames.
+// Room for the files, the registers and the frames: no heap, so each function lends the next what it makes.
 
 fn with_index<R: Env + Files + Print + Eprint>(rt: &R, index: &mut [u8]) -> io::Result<()> {
     let n = console::read_file(rt, 1, index)?;
@@ -80,301 +87,204 @@ fn with_file<R: Env + Files + Print + Eprint>(
 ) -> io::Result<()> {
     let n = console::read_file(rt, 2, file)?;
     if n < file.len() {
-        with_files_read(rt, index, &file[..n])?;
+        let file = &file[..n];
+        with_disc(rt, Disc { index, file })?;
     }
     Ok(())
 }
 
-fn with_files_read(rt: &(impl Env + Print), index: &[u8], file: &[u8]) -> io::Result<()> {
-    let mut gpr = [0u32; 4096];
-    let mut psr = [0u32; 128];
-    with_registers(rt, index, file, &mut gpr, &mut psr)
-}
-
-fn with_registers(
-    rt: &(impl Env + Print),
-    index: &[u8],
-    file: &[u8],
-    gpr: &mut [u32],
-    psr: &mut [u32],
-) -> io::Result<()> {
-    let options = read_options(rt, gpr, psr);
-    let understood = options.understood;
-    if understood {
-        return with_options(rt, index, file, gpr, psr, options);
+fn with_disc(rt: &(impl Env + Print), disc: Disc) -> io::Result<()> {
+    let mut registers = Registers::new();
+    match read_options(rt, &mut registers) {
+        Some(options) => with_options(rt, disc, &mut registers, options),
+        None => print_usage(rt),
     }
-    print_usage(rt)
 }
 
 fn with_options(
     rt: &impl Print,
-    index: &[u8],
-    file: &[u8],
-    gpr: &mut [u32],
-    psr: &mut [u32],
+    disc: Disc,
+    registers: &mut Registers,
     options: Options,
 ) -> io::Result<()> {
     let mut frames = [0u32; 131072];
-    with_frames(rt, index, file, gpr, psr, &mut frames, options)
-}
-
-fn with_frames(
-    rt: &impl Print,
-    index: &[u8],
-    file: &[u8],
-    gpr: &mut [u32],
-    psr: &mut [u32],
-    frames: &mut [u32],
-    options: Options,
-) -> io::Result<()> {
     let mut titles = [0u32; 196608];
-    drive(rt, index, file, gpr, psr, frames, &mut titles, options)
+    let mut player = Player {
+        disc,
+        gpr: &mut registers.gpr,
+        psr: &mut registers.psr,
+        frames: &mut frames,
+        titles: &mut titles,
+    };
+    drive(rt, &mut player, options)
 }
 
 // The command line.
 
-// One option: its place in the usage, or 0 for what is none, the register it names, and its value.
-#[derive(Drop)]
-struct Setting {
-    which: u8,
-    register: u16,
-    value: u32,
-}
-
-fn not_an_option() -> Setting {
-    Setting {
-        which: 0,
-        register: 0,
-        value: 0,
-    }
-}
-
-// The option whose value fills a word from a place on.
-fn option_at(which: u8, register: u16, word: &[u8], at: usize) -> Setting {
-    let found = console::number_in(word, at);
-    if found.fits & (found.end == word.len()) {
-        return Setting {
-            which,
-            register,
-            value: found.value,
-        };
-    }
-    not_an_option()
-}
-
-// A register below a limit, an equals sign and its value, behind one letter.
-fn register_option(which: u8, limit: u32, word: &[u8]) -> Setting {
-    let found = console::number_in(word, 1);
-    let at = found.end;
-    let index = found.value;
-    if found.fits & (index < limit) {
-        if at < word.len() {
-            if word[at] == b'=' {
-                return option_at(which, (index % 65536) as u16, word, at + 1);
-            }
-        }
-    }
-    not_an_option()
-}
-
-fn option_of(word: &[u8]) -> Setting {
-    if console::begins(word, b"entry=") {
-        return option_at(1, 0, word, 6);
-    }
-    if console::begins(word, b"steps=") {
-        return option_at(2, 0, word, 6);
-    }
-    if console::begins(word, b"objects=") {
-        return option_at(3, 0, word, 8);
-    }
-    if console::begins(word, b"titles=") {
-        return option_at(4, 0, word, 7);
-    }
-    if console::begins(word, b"resumes=") {
-        return option_at(5, 0, word, 8);
-    }
-    if console::begins(word, b"r") {
-        return register_option(6, 4096, word);
-    }
-    if console::begins(word, b"p") {
-        return register_option(7, 128, word);
-    }
-    not_an_option()
-}
-
-fn take_option(setting: Setting, gpr: &mut [u32], psr: &mut [u32], options: Options) -> Options {
-    let mut taken = options;
-    let which = setting.which;
-    match which {
-        1 => {
-            taken.entry = setting.value;
-        }
-        2 => {
-            taken.steps = setting.value;
-        }
-        3 => {
-            taken.objects = setting.value;
-        }
-        4 => {
-            taken.titles = setting.value;
-        }
-        5 => {
-            taken.resumes = setting.value;
-        }
-        6 => {
-            Registers::set_gpr(gpr, setting.register, setting.value);
-        }
-        7 => {
-            Registers::set_psr_player(psr, setting.register, setting.value);
-        }
-        _ => {
-            taken.understood = false;
-        }
-    }
-    taken
-}
-
-fn read_option(
-    rt: &impl Env,
-    k: usize,
-    gpr: &mut [u32],
-    psr: &mut [u32],
-    options: Options,
-) -> Options {
-    let mut word = [0u8; 64];
-    let n = console::read_word(rt, k, &mut word);
-    let setting = option_of(&word[..n]);
-    take_option(setting, gpr, psr, options)
-}
-
-fn read_options(rt: &impl Env, gpr: &mut [u32], psr: &mut [u32]) -> Options {
+// The words from the third on; nothing where one of them is no option.
+fn read_options(rt: &impl Env, registers: &mut Registers) -> Option<Options> {
     let mut options = Options {
         entry: Session::FIRST_PLAYBACK,
-        steps: Budgets::STEPS,
-        objects: Budgets::OBJECTS,
-        titles: Budgets::TITLES,
+        budgets: Budgets::new(),
         resumes: 100,
-        understood: true,
     };
-    let count = console::word_count(rt);
-    let mut k = 3;
-    while k < count {
-        options = read_option(rt, k, gpr, psr, options);
-        k += 1;
+    for k in 3..console::word_count(rt) {
+        let setting = read_option(rt, k)?;
+        options.take(setting, registers).ok()?;
     }
-    options
+    Some(options)
+}
+
+fn read_option(rt: &impl Env, k: usize) -> Option<Setting> {
+    let mut word = [0u8; 64];
+    let n = console::read_word(rt, k, &mut word);
+    option_of(str::from_utf8(&word[..n]).ok()?)
+}
+
+fn option_of(word: &str) -> Option<Setting> {
+    let (name, value) = word.split_once('=')?;
+    let value = number_from(value.as_bytes(), 0)?;
+    match name {
+        "entry" => Some(Setting::Entry(value)),
+        "steps" => Some(Setting::Steps(value)),
+        "objects" => Some(Setting::Objects(value)),
+        "titles" => Some(Setting::Titles(value)),
+        "resumes" => Some(Setting::Resumes(value)),
+        _ => register_option(name.as_bytes(), value),
+    }
+}
+
+fn register_option(name: &[u8], value: u32) -> Option<Setting> {
+    let index = u16::try_from(number_from(name, 1)?).ok()?;
+    if console::begins(name, b"r") && index < 4096 {
+        Some(Setting::General(index, value))
+    } else if console::begins(name, b"p") && index < 128 {
+        Some(Setting::Status(index, value))
+    } else {
+        None
+    }
+}
+
+// The number that fills a word from a place on.
+fn number_from(word: &[u8], at: usize) -> Option<u32> {
+    let Decimal { value, end } = console::number_in(word, at);
+    if end == word.len() { value } else { None }
+}
+
+impl Options {
+    // Refused only where a bank is not of its size.
+    fn take(&mut self, setting: Setting, registers: &mut Registers) -> Result<(), Refusal> {
+        match setting {
+            Setting::Entry(entry) => self.entry = entry,
+            Setting::Steps(steps) => self.budgets.steps = steps,
+            Setting::Objects(objects) => self.budgets.objects = objects,
+            Setting::Titles(titles) => self.budgets.titles = titles,
+            Setting::Resumes(resumes) => self.resumes = resumes,
+            Setting::General(index, value) => Registers::set_gpr(&mut registers.gpr, index, value)?,
+            Setting::Status(index, value) => Registers::set_psr_player(
+                &mut registers.psr,
+                index,
+                value,
+            )?,
+        }
+        Ok(())
+    }
 }
 
 // The calls.
 
-fn drive(
-    rt: &impl Print,
-    index: &[u8],
-    file: &[u8],
-    gpr: &mut [u32],
-    psr: &mut [u32],
-    frames: &mut [u32],
-    titles: &mut [u32],
-    options: Options,
-) -> io::Result<()> {
-    let b = Budgets {
-        steps: options.steps,
-        objects: options.objects,
-        titles: options.titles,
-    };
-    let entry = options.entry;
-    let s = Session::new();
-    say(rt, b"run from ")?;
-    print_entry(rt, entry)?;
-    let answer = nav_driver::run(gpr, psr, frames, titles, index, file, s, entry, b);
-    let ended = print_answer(rt, answer)?;
-    let resumes = options.resumes;
-    match ended {
-        Ended::Refused(of_file) => print_refused(rt, of_file, index),
-        Ended::With(end) => {
-            let last = resume_all(rt, index, file, gpr, psr, frames, titles, end, b, resumes)?;
-            say(rt, b"ended: ")?;
-            print_last(rt, last)
-        }
+impl Player<'_> {
+    fn run(&mut self, entry: u32, b: Budgets) -> Result<DriveEnd, Refusal> {
+        let Disc { index, file } = self.disc;
+        nav_driver::run(
+            self.gpr,
+            self.psr,
+            self.frames,
+            self.titles,
+            index,
+            file,
+            Session::new(),
+            entry,
+            b,
+        )
+    }
+
+    fn resume(&mut self, s: Session, b: Budgets) -> Result<DriveEnd, Refusal> {
+        let Disc { index, file } = self.disc;
+        nav_driver::resume(
+            self.gpr,
+            self.psr,
+            self.frames,
+            self.titles,
+            index,
+            file,
+            s,
+            b,
+        )
+    }
+}
+
+fn drive(rt: &impl Print, player: &mut Player, options: Options) -> io::Result<()> {
+    print!(rt; "run from {}", Entry(options.entry))?;
+    let answer = player.run(options.entry, options.budgets);
+    print_answer(rt, answer)?;
+    match answer {
+        Ok(end) => print_last(rt, resume_all(rt, player, end, options)?),
+        Err(why) => print_refused(rt, why, player.disc.index),
     }
 }
 
 // Answers every play and request, up to a number of them.
 fn resume_all(
     rt: &impl Print,
-    index: &[u8],
-    file: &[u8],
-    gpr: &mut [u32],
-    psr: &mut [u32],
-    frames: &mut [u32],
-    titles: &mut [u32],
+    player: &mut Player,
     end: DriveEnd,
-    b: Budgets,
-    resumes: u32,
+    options: Options,
 ) -> io::Result<DriveEnd> {
     let mut last = end;
-    let mut k = 0;
-    while k < resumes {
-        let s = last.session;
-        let waits = s.pending;
-        if waits {
-            k += 1;
-            say(rt, b"resume ")?;
-            say_number(rt, k)?;
-            let answer = nav_driver::resume(gpr, psr, frames, titles, index, file, s, b);
-            let ended = print_answer(rt, answer)?;
-            match ended {
-                Ended::Refused(_) => {
-                    return Ok(last);
-                }
-                Ended::With(next) => {
-                    last = next;
-                }
-            }
-        } else {
-            return Ok(last);
+    for k in 1..=options.resumes {
+        if !last.session.pending {
+            break;
         }
+        print!(rt; "resume {k}")?;
+        let answer = player.resume(last.session, options.budgets);
+        print_answer(rt, answer)?;
+        let Ok(next) = answer else { break };
+        last = next;
     }
     Ok(last)
 }
 
 // What the calls answer.
 
-fn print_entry(rt: &impl Print, entry: u32) -> io::Result<()> {
-    if entry == Session::FIRST_PLAYBACK {
-        return say(rt, b"first playback");
+// An entry as the program names it.
+#[derive(Clone, Copy)]
+struct Entry(u32);
+
+impl fmt::Display for Entry {
+    fn fmt<W: fmt::Write>(&self, f: &mut fmt::Formatter<W>) -> fmt::Result {
+        match self.0 {
+            Session::FIRST_PLAYBACK => write!(f, "first playback"),
+            Session::TOP_MENU => write!(f, "top menu"),
+            title => write!(f, "title {title}"),
+        }
     }
-    if entry == Session::TOP_MENU {
-        return say(rt, b"top menu");
-    }
-    say(rt, b"title ")?;
-    say_number(rt, entry)
 }
 
 // One line for a call: its outcome, and the object and pc where it stands.
-fn print_answer(rt: &impl Print, answer: DriveAnswer) -> io::Result<Ended> {
-    say(rt, b": ")?;
+fn print_answer(rt: &impl Print, answer: Result<DriveEnd, Refusal>) -> io::Result<()> {
     match answer {
-        DriveAnswer::Refused(why) => {
-            let of_file = is_of_file(&why);
-            console::say_refused(rt, why)?;
-            Ok(Ended::Refused(of_file))
+        Ok(DriveEnd { outcome, session }) => {
+            print!(rt; ": ")?;
+            print_outcome(rt, outcome)?;
+            println!(rt; " (object {}, pc {})", session.object, session.pc)
         }
-        DriveAnswer::Drove(end) => {
-            let s = end.session;
-            print_outcome(rt, &end.outcome)?;
-            say(rt, b" (object ")?;
-            say_number(rt, s.object)?;
-            say(rt, b", pc ")?;
-            say_number(rt, s.pc)?;
-            say(rt, b")\n")?;
-            Ok(Ended::With(end))
-        }
+        Err(why) => println!(rt; ": {}", Refused(why)),
     }
 }
 
 // Refusals 1 to 4 are those of a file.
-fn is_of_file(why: &Refusal) -> bool {
+fn is_of_file(why: Refusal) -> bool {
     matches!(
         why,
         Refusal::TooLong | Refusal::BadHeader | Refusal::BadBody | Refusal::BadEntry
@@ -382,76 +292,59 @@ fn is_of_file(why: &Refusal) -> bool {
 }
 
 // The index file is judged first.
-fn print_refused(rt: &impl Print, of_file: bool, index: &[u8]) -> io::Result<()> {
-    say(rt, b"ended: refused")?;
-    if of_file {
-        let found = index_bdmv::verdict(index);
-        match found {
-            Verdict::Refused(_) => say(rt, b", the index file"),
-            Verdict::Fine => say(rt, b", the object file"),
-        }?;
-    }
-    say(rt, b"\n")
+fn print_refused(rt: &impl Print, why: Refusal, index: &[u8]) -> io::Result<()> {
+    let file = if !is_of_file(why) {
+        ""
+    } else if index_bdmv::verdict(index).is_err() {
+        ", the index file"
+    } else {
+        ", the object file"
+    };
+    println!(rt; "ended: refused{file}")
 }
 
 // How the drive ended: its last outcome, and whether it waits for an answer still.
 fn print_last(rt: &impl Print, last: DriveEnd) -> io::Result<()> {
-    print_outcome(rt, &last.outcome)?;
-    let s = last.session;
-    if s.pending {
-        say(rt, b", and waits for a resume")?;
+    print!(rt; "ended: ")?;
+    print_outcome(rt, last.outcome)?;
+    if last.session.pending {
+        print!(rt; ", and waits for a resume")?;
     }
-    say(rt, b"\n")
+    println!(rt)
 }
 
-fn print_outcome(rt: &impl Print, outcome: &DriveOutcome) -> io::Result<()> {
+fn print_outcome(rt: &impl Print, outcome: DriveOutcome) -> io::Result<()> {
     match outcome {
-        DriveOutcome::Finished => say(rt, b"finished"),
-        DriveOutcome::Play(play) => print_play(rt, *play),
-        DriveOutcome::Request(asked) => print_request(rt, numbers::request_of(*asked)),
-        DriveOutcome::BadTitle(title) => {
-            say(rt, b"bad title ")?;
-            say_number(rt, *title)
-        }
-        DriveOutcome::BadObject(object) => {
-            say(rt, b"bad object ")?;
-            say_number(rt, *object)
-        }
-        DriveOutcome::BudgetExhausted => say(rt, b"budget exhausted"),
-        DriveOutcome::ObjectStackFull => say(rt, b"object stack full"),
-        DriveOutcome::TitleStackFull => say(rt, b"title stack full"),
+        DriveOutcome::Finished => print!(rt; "finished"),
+        DriveOutcome::Play(play) => print_play(rt, play),
+        DriveOutcome::Request(asked) => print_request(rt, numbers::request_of(asked)),
+        DriveOutcome::BadTitle(title) => print!(rt; "bad title {title}"),
+        DriveOutcome::BadObject(object) => print!(rt; "bad object {object}"),
+        DriveOutcome::BudgetExhausted => print!(rt; "budget exhausted"),
+        DriveOutcome::ObjectStackFull => print!(rt; "object stack full"),
+        DriveOutcome::TitleStackFull => print!(rt; "title stack full"),
     }
 }
 
 fn print_play(rt: &impl Print, play: PlayRequest) -> io::Result<()> {
-    say(rt, b"play list ")?;
-    say_number(rt, play.playlist)?;
-    let item = play.play_item;
-    if let Option32::Some(n) = item {
-        say(rt, b" from item ")?;
-        say_number(rt, n)?;
+    print!(rt; "play list {}", play.playlist)?;
+    if let Some(item) = play.play_item {
+        print!(rt; " from item {item}")?;
     }
-    let mark = play.mark;
-    if let Option32::Some(n) = mark {
-        say(rt, b" from mark ")?;
-        say_number(rt, n)?;
+    if let Some(mark) = play.mark {
+        print!(rt; " from mark {mark}")?;
     }
     Ok(())
 }
 
 // A request by its name, or by its code where it has none, and its operands.
 fn print_request(rt: &impl Print, asked: Request) -> io::Result<()> {
-    say(rt, b"request ")?;
-    let op = asked.op;
-    if op == 0 {
-        say(rt, b"of code ")?;
-        say_number(rt, asked.code)?;
+    print!(rt; "request ")?;
+    match u8::try_from(asked.op) {
+        Ok(number) if number != 0 => print_name(rt, number)?,
+        _ => print!(rt; "of code {}", asked.code)?,
     }
-    print_name(rt, (op % 48) as u8)?;
-    say(rt, b" ")?;
-    say_number(rt, asked.first)?;
-    say(rt, b", ")?;
-    say_number(rt, asked.second)
+    print!(rt; " {}, {}", asked.first, asked.second)
 }
 
 fn print_name(rt: &impl Print, number: u8) -> io::Result<()> {

@@ -1,5 +1,5 @@
 -- Examples of the disc check (document 01, "Objects and titles"). Assumes nothing.
-use Rattle.std.specs.Prelude.{◌≡◌, refl, List, ◌++◌, ℕ}
+use Rattle.std.specs.Prelude.{◌≡◌, refl, List, ◌++◌, ℕ, Err, None, Ok, Some}
 use Rattle.common.specs.Rules.{be2, be4, bytes2, bytes4, header_of}
 use Rattle.index_bdmv.specs.Rules.{app_info_verdict, entry_verdict, entries_verdict, start_of, stated_verdict, titles_verdict, indexes_verdict, verdict_of as indexVerdict, title_count, place_of, resolve_of}
 use Rattle.movie_object.specs.Rules.{count_of, next, place, body_of, verdict_of, commands_of}
@@ -26,20 +26,20 @@ abbrev jump_register : ℕ → List ℕ
 jump_register r = bytes4 0x2100_0000 ++ bytes4 r ++ bytes4 0
 
 -- Yes, or no with the first offending object and command in file order, whether a run reaches it or not.
-pub clean_disc : check_of x (file (jump_object 1)) ≡ Passed
+pub clean_disc : check_of x (file (jump_object 1)) ≡ Ok Passed
 unfolding opened
 clean_disc = refl
 
-pub last_command_offends : check_of x (file (jump_object 2)) ≡ Offends 1 1
+pub last_command_offends : check_of x (file (jump_object 2)) ≡ Ok (Offends 1 1)
 unfolding opened
 last_command_offends = refl
 
 -- A register that there is can hold anything.
-pub register_offends : check_of x (file (jump_register 0)) ≡ Offends 1 1
+pub register_offends : check_of x (file (jump_register 0)) ≡ Ok (Offends 1 1)
 unfolding opened
 register_offends = refl
 
 -- Titles are cut to their low 16 bits first.
-pub title_65537 : check_of x (file (jump_title 65537)) ≡ Passed
+pub title_65537 : check_of x (file (jump_title 65537)) ≡ Ok Passed
 unfolding opened
 title_65537 = refl

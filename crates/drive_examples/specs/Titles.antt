@@ -1,5 +1,5 @@
 -- Examples of drives of titles (document 01, "Objects and titles"). Assumes nothing.
-use Rattle.std.specs.Prelude.{◌≡◌, refl, true, false, List, [], ◌∷◌, ◌++◌, ℕ, set}
+use Rattle.std.specs.Prelude.{◌≡◌, refl, true, false, List, [], ◌∷◌, ◌++◌, ℕ, set, Err, None, Ok, Option, Result, Some}
 use Rattle.common.specs.Rules.{be2, be4, bytes2, bytes4, header_of}
 use Rattle.error.specs.declared.Refusal.TheVariants.{BadSession}
 use Rattle.index_bdmv.specs.Rules.{app_info_verdict, entry_verdict as indexEntry, entries_verdict, start_of as indexStart, stated_verdict, titles_verdict, indexes_verdict, verdict_of as indexVerdict, title_count, place_of, resolve_of}
@@ -10,9 +10,6 @@ use Rattle.vm.specs.Rules.{exec_set, acted, exec_of, step_of, run_from, run_of}
 use Rattle.session.specs.declared.Session.{Session}
 use Rattle.session.specs.Rules.{session, fresh, buffers_verdict, budgets_verdict, entry_verdict, objects_live, titles_live, live_verdict, session_verdict}
 use Rattle.mobj_runner.specs.Rules.{returned as objectReturned, turn_of as objectTurn, drive_of}
-use Rattle.nav_driver.specs.declared.Option32.TheVariants.{None}
-use Rattle.nav_driver.specs.declared.DriveAnswer.{DriveAnswer}
-use Rattle.nav_driver.specs.declared.DriveAnswer.TheVariants.{Refused, Drove}
 use Rattle.nav_driver.specs.declared.DriveOutcome.{DriveOutcome}
 use Rattle.nav_driver.specs.declared.DriveOutcome.TheVariants.{BudgetExhausted, Finished, Play, BadTitle, BadObject, TitleStackFull}
 use Rattle.nav_driver.specs.declared.Start.{Start}
@@ -20,6 +17,8 @@ use Rattle.nav_driver.specs.declared.Start.TheVariants.{Entry, Here}
 use Rattle.nav_driver.specs.Rules.{Rooms, rooms, ended, title_value, entered, jumped, called, returned, turn_of, titles_of, bad_number, start_of, go_on_of, verdict_for, answer_of}
 use Rattle.mobj_runner_examples.specs.Discs.{general, status, object, objects}
 use Rattle.drive_examples.specs.Discs.{move, jump_title, call_title, play, hdmv, index}
+use Rattle.error.specs.declared.Refusal.{Refusal}
+use Rattle.nav_driver.specs.declared.DriveEnd.{DriveEnd}
 
 -- what the examples compute with
 opened : Unit {0}
@@ -35,11 +34,11 @@ abbrev x : List ℕ
 x = index 0 3 2 (hdmv 1 ++ hdmv 2)
 
 -- a drive with budgets of two steps, no object and so many titles, and what it leaves
-abbrev drive : ℕ → Start → Rooms Session → Rooms DriveAnswer
+abbrev drive : ℕ → Start → Rooms Session → Rooms (Result DriveEnd Refusal)
 drive titles start w = answer_of x file (record { steps = 2; objects = 0; titles = titles }) start w
 
-abbrev leaves : DriveOutcome → Session → Banks → List ℕ → List ℕ → Rooms DriveAnswer
-leaves outcome s r f t = rooms (Drove (ended outcome s)) r f t
+abbrev leaves : DriveOutcome → Session → Banks → List ℕ → List ℕ → Rooms (Result DriveEnd Refusal)
+leaves outcome s r f t = rooms (Ok (ended outcome s)) r f t
 
 -- JumpTitle 65,537 goes to title 1, and register 4 gets its number.
 pub jump_to_title_65537 : drive 1 (Entry 65536) (rooms fresh (banks general status) [] [])
@@ -77,7 +76,7 @@ unfolding opened
 return_to_the_caller = refl
 
 -- A depth exceeds its room; a refusal alters nothing.
-pub no_such_frame : drive 1 Here (rooms (session 1 1 2 0 1 true) (banks general status) [] []) ≡ rooms (Refused BadSession) (banks general status) [] []
+pub no_such_frame : drive 1 Here (rooms (session 1 1 2 0 1 true) (banks general status) [] []) ≡ rooms (Err BadSession) (banks general status) [] []
 unfolding opened
 no_such_frame = refl
 

@@ -4,7 +4,7 @@
 ghost use Rattle.std.specs.Prelude.{◌≡◌};
 ghost use Rattle.error.specs.Rules.{number_of, refused_if, first_of};
 
-#[derive(Drop)]
+#[derive(Clone, Copy, Debug, PartialEq, Eq)]
 pub enum Refusal {
     TooLong,
     BadHeader,
@@ -16,13 +16,6 @@ pub enum Refusal {
     BadSession,
     NotEncodable,
     NotAnEntry,
-}
-
-// What a test of the input finds.
-#[derive(Drop)]
-pub enum Verdict {
-    Fine,
-    Refused(Refusal),
 }
 
 impl Refusal {
@@ -43,25 +36,22 @@ impl Refusal {
             Refusal::NotAnEntry => 10,
         }
     }
-}
 
-impl Verdict {
-    pub fn refused_if(bad: bool, refusal: Refusal) -> Verdict
-        ensures { result ≡ refused_if bad refusal }
+    // What a test of the input finds: this refusal where it is met.
+    pub fn refused_if(self, bad: bool) -> Result<(), Refusal>
+        ensures { result ≡ refused_if bad self }
     {
         if bad {
-            return Verdict::Refused(refusal);
+            return Err(self);
         }
-        Verdict::Fine
+        Ok(())
     }
+}
 
-    // The first refusal of two tests made in this order.
-    pub fn or_else(self, later: Verdict) -> Verdict
-        ensures { result ≡ first_of self later }
-    {
-        match self {
-            Verdict::Fine => later,
-            Verdict::Refused(_) => self,
-        }
-    }
+// The first refusal of two tests made in this order.
+pub fn first_of(first: Result<(), Refusal>, later: Result<(), Refusal>) -> Result<(), Refusal>
+    ensures { result ≡ first_of first later }
+{
+    first?;
+    later
 }

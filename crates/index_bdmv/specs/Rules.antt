@@ -1,25 +1,14 @@
 -- What an index.bdmv says, and which files are read (document 01, module 6). Assumes nothing.
-use Rattle.std.specs.Prelude.{cond, List, [], ℕ, zero, suc, ◌+◌, ◌*◌, ◌/◌, ◌%◌, leb, ltb, eqb, length, get_or, take, drop}
+use Rattle.std.specs.Prelude.{cond, List, [], ℕ, zero, suc, ◌+◌, ◌*◌, ◌/◌, ◌%◌, leb, ltb, eqb, length, get_or, take, drop, Err, None, Ok, Option, Result, Some}
 use Rattle.common.specs.Rules.{be2, be4, header_of}
 use Rattle.utf8.specs.Rules.{is_utf8}
-use Rattle.error.specs.Rules.{first_of}
+use Rattle.error.specs.Rules.{first_of, given, Verdict}
 use Rattle.error.specs.declared.Refusal.TheVariants.{BadBody, BadEntry, NotAnEntry}
-use Rattle.error.specs.declared.Verdict.{Verdict}
-use Rattle.error.specs.declared.Verdict.TheVariants as verdict
 use Rattle.index_bdmv.specs.declared.AppInfoBdmv.{AppInfoBdmv}
 use Rattle.index_bdmv.specs.declared.IndexObjectType.{IndexObjectType}
 use Rattle.index_bdmv.specs.declared.IndexObjectType.TheVariants.{Hdmv, BdJ}
 use Rattle.index_bdmv.specs.declared.IndexBdmv.{IndexBdmv}
-use Rattle.index_bdmv.specs.declared.Parsed.{Parsed}
-use Rattle.index_bdmv.specs.declared.Parsed.TheVariants as parsed
-use Rattle.index_bdmv.specs.declared.Lead.{Lead}
-use Rattle.index_bdmv.specs.declared.Lead.TheVariants as lead
-use Rattle.index_bdmv.specs.declared.Place.{Place}
-use Rattle.index_bdmv.specs.declared.Place.TheVariants as place
-use Rattle.index_bdmv.specs.declared.IndexEntry.{IndexEntry}
-use Rattle.index_bdmv.specs.declared.IndexEntry.TheVariants as entry
-use Rattle.index_bdmv.specs.declared.Resolved.{Resolved}
-use Rattle.index_bdmv.specs.declared.Resolved.TheVariants as resolved
+use Rattle.error.specs.declared.Refusal.{Refusal}
 
 -- The letters INDX.
 abbrev pub indx : ℕ
@@ -30,9 +19,9 @@ indx = 0x494E4458
 -- It is read from 44, and its stated end must lie within the file; a length under 2 is refused.
 unfoldable pub app_info_verdict : List ℕ → Verdict
 app_info_verdict s =
-    cond (ltb (length s) 46) (verdict.Refused BadBody)
-    (cond (ltb (be4 s 40) 2) (verdict.Refused BadBody)
-    (cond (leb (44 + be4 s 40) (length s)) verdict.Fine (verdict.Refused BadBody)))
+    cond (ltb (length s) 46) (Err BadBody)
+    (cond (ltb (be4 s 40) 2) (Err BadBody)
+    (cond (leb (44 + be4 s 40) (length s)) (Ok tt) (Err BadBody)))
 
 -- Bits 3 and 2 of its first byte, then two halves of the second.
 unfoldable pub app_info_of : ℕ → ℕ → AppInfoBdmv
@@ -60,14 +49,14 @@ name_at s at = take 5 (drop (at + 4) s)
 unfoldable pub entry_verdict : List ℕ → ℕ → Verdict
 entry_verdict s at =
     cond (leb (at + 12) (length s))
-    (cond (eqb (kind_at s at) 1) verdict.Fine
-    (cond (eqb (kind_at s at) 2) (cond (is_utf8 (name_at s at)) verdict.Fine (verdict.Refused BadEntry))
-    (verdict.Refused BadEntry)))
-    (verdict.Refused BadBody)
+    (cond (eqb (kind_at s at) 1) (Ok tt)
+    (cond (eqb (kind_at s at) 2) (cond (is_utf8 (name_at s at)) (Ok tt) (Err BadEntry))
+    (Err BadEntry)))
+    (Err BadBody)
 
 -- The first refusal among n entries from a place on.
 unfoldable pub entries_verdict : List ℕ → ℕ → ℕ → Verdict
-entries_verdict s at zero = verdict.Fine
+entries_verdict s at zero = Ok tt
 entries_verdict s at (suc n) = first_of (entries_verdict s at n) (entry_verdict s (at + 12 * n))
 
 -- ---- the Indexes
@@ -80,12 +69,12 @@ start_of s = be4 s 8
 unfoldable pub stated_verdict : List ℕ → ℕ → Verdict
 stated_verdict s p =
     cond (leb (p + 4) (length s))
-    (cond (leb (p + 4 + be4 s p) (length s)) verdict.Fine (verdict.Refused BadBody))
-    (verdict.Refused BadBody)
+    (cond (leb (p + 4 + be4 s p) (length s)) (Ok tt) (Err BadBody))
+    (Err BadBody)
 
 -- The number of titles, and the titles.
 unfoldable pub titles_verdict : List ℕ → ℕ → Verdict
-titles_verdict s p = cond (leb (p + 30) (length s)) (entries_verdict s (p + 30) (be2 s (p + 28))) (verdict.Refused BadBody)
+titles_verdict s p = cond (leb (p + 30) (length s)) (entries_verdict s (p + 30) (be2 s (p + 28))) (Err BadBody)
 
 -- First playback and top menu are two entries before them.
 unfoldable pub indexes_verdict : List ℕ → ℕ → Verdict
@@ -101,22 +90,22 @@ unfoldable pub title_count : List ℕ → ℕ
 title_count s = be2 s (start_of s + 28)
 
 -- 65,536 first playback, 65,537 top menu, 1..65,535 a title of the disc; nothing else, and never 0, has a place.
-unfoldable pub place_of : List ℕ → ℕ → Place
+unfoldable pub place_of : List ℕ → ℕ → Option ℕ
 place_of s e =
-    cond (eqb e 65536) (place.At (start_of s + 4))
-    (cond (eqb e 65537) (place.At (start_of s + 16))
-    (cond (eqb e 0) place.Nowhere
-    (cond (leb e (title_count s)) (place.At (start_of s + 18 + 12 * e)) place.Nowhere)))
+    cond (eqb e 65536) (Some (start_of s + 4))
+    (cond (eqb e 65537) (Some (start_of s + 16))
+    (cond (eqb e 0) None
+    (cond (leb e (title_count s)) (Some (start_of s + 18 + 12 * e)) None)))
 
 -- An HDMV entry leads to its object; a BD-J entry doesn't resolve.
-abbrev pub lead_at : List ℕ → ℕ → Lead
-lead_at s at = cond (eqb (kind_at s at) 1) (lead.Object (be2 s (at + 4))) lead.Nothing
+abbrev pub lead_at : List ℕ → ℕ → Option ℕ
+lead_at s at = cond (eqb (kind_at s at) 1) (Some (be2 s (at + 4))) None
 
-abbrev pub lead_from : List ℕ → Place → Lead
-lead_from s (place.At at) = lead_at s at
-lead_from s place.Nowhere = lead.Nothing
+abbrev pub lead_from : List ℕ → Option ℕ → Option ℕ
+lead_from s (Some at) = lead_at s at
+lead_from s None = None
 
-unfoldable pub resolve_of : List ℕ → ℕ → Lead
+unfoldable pub resolve_of : List ℕ → ℕ → Option ℕ
 resolve_of s e = lead_from s (place_of s e)
 
 -- ---- what the public calls answer
@@ -135,43 +124,31 @@ index_of s =
       titles = title_count s;
     }
 
-abbrev pub parsed_as : Verdict → IndexBdmv → Parsed
-parsed_as verdict.Fine i = parsed.Read i
-parsed_as (verdict.Refused r) i = parsed.Refused r
-
-unfoldable pub parse_of : List ℕ → Parsed
-parse_of s = parsed_as (verdict_of s) (index_of s)
+unfoldable pub parse_of : List ℕ → Result IndexBdmv Refusal
+parse_of s = given (verdict_of s) (index_of s)
 
 -- 10 not an entry: over 65,537.
 abbrev pub is_entry : ℕ → Verdict
-is_entry e = cond (leb e 65537) verdict.Fine (verdict.Refused NotAnEntry)
+is_entry e = cond (leb e 65537) (Ok tt) (Err NotAnEntry)
 
-abbrev pub entry_from : List ℕ → Place → IndexEntry
-entry_from s (place.At at) = entry.Object (object_at s at)
-entry_from s place.Nowhere = entry.Nothing
+abbrev pub entry_from : List ℕ → Option ℕ → Option IndexObjectType
+entry_from s (Some at) = Some (object_at s at)
+entry_from s None = None
 
-abbrev pub entry_as : Verdict → IndexEntry → IndexEntry
-entry_as verdict.Fine e = e
-entry_as (verdict.Refused r) e = entry.Refused r
+unfoldable pub entry_of : List ℕ → ℕ → Result (Option IndexObjectType) Refusal
+entry_of s e = given (first_of (verdict_of s) (is_entry e)) (entry_from s (place_of s e))
 
-unfoldable pub entry_of : List ℕ → ℕ → IndexEntry
-entry_of s e = entry_as (first_of (verdict_of s) (is_entry e)) (entry_from s (place_of s e))
-
-abbrev pub resolved_as : Verdict → Lead → Resolved
-resolved_as verdict.Fine l = resolved.Leads l
-resolved_as (verdict.Refused r) l = resolved.Refused r
-
-unfoldable pub resolve_movie_object : List ℕ → ℕ → Resolved
-resolve_movie_object s e = resolved_as (first_of (verdict_of s) (is_entry e)) (resolve_of s e)
+unfoldable pub resolve_movie_object : List ℕ → ℕ → Result (Option ℕ) Refusal
+resolve_movie_object s e = given (first_of (verdict_of s) (is_entry e)) (resolve_of s e)
 
 -- The name of a BD-J entry, a part of the file; nothing where there is none, or where the call is refused.
-abbrev pub name_from : List ℕ → Place → List ℕ
-name_from s (place.At at) = cond (eqb (kind_at s at) 2) (name_at s at) []
-name_from s place.Nowhere = []
+abbrev pub name_from : List ℕ → Option ℕ → List ℕ
+name_from s (Some at) = cond (eqb (kind_at s at) 2) (name_at s at) []
+name_from s None = []
 
 abbrev pub where_fine : Verdict → List ℕ → List ℕ
-where_fine verdict.Fine l = l
-where_fine (verdict.Refused r) l = []
+where_fine (Ok u) l = l
+where_fine (Err r) l = []
 
 unfoldable pub name_of : List ℕ → ℕ → List ℕ
 name_of s e = where_fine (first_of (verdict_of s) (is_entry e)) (name_from s (place_of s e))

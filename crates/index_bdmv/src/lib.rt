@@ -1,14 +1,14 @@
 // index.bdmv: which files are read, what an entry says, and which object it leads to (the Rust's index_bdmv.rs).
 #![tactic(auto)]
 
-ghost use Rattle.std.specs.Prelude.{◌≡◌, ◌+◌, ◌*◌, ◌≤◌, length};
-ghost use Rattle.error.specs.Rules.{first_of};
-ghost use Rattle.error.specs.declared.Verdict.TheVariants.{Fine};
+ghost use Rattle.std.specs.Prelude.{List, ℕ, OnOk, ◌≡◌, ◌+◌, ◌*◌, ◌^◌, ◌≤◌, ◌<◌, length, Ok};
+ghost use Rattle.error.specs.Rules.{first_of, given};
 ghost use Rattle.index_bdmv.specs.Rules.{app_info_verdict, app_info_of, entry_verdict, entries_verdict, start_of, stated_verdict, indexes_verdict, verdict_of, title_count, lead_at, resolve_of, object_at, index_of, parse_of, is_entry, entry_from, place_of, entry_of, name_from, name_of, resolve_movie_object};
-ghost use Rattle.index_bdmv.specs.Laws.{moved_as, titles_from};
+ghost use Rattle.index_bdmv.specs.Laws.{Opened};
 
-use common::{Byte, Half, Moved, Reader, Word, be16, be32, header};
-use error::{Refusal, Verdict};
+use common::{Reader, be16, be32, header};
+use error::Refusal;
+use std::marker::Model;
 use utf8::is_utf8_name;
 
 // The letters INDX.
@@ -19,7 +19,7 @@ pub const FIRST_PLAYBACK: u32 = 65536;
 
 pub const TOP_MENU: u32 = 65537;
 
-#[derive(Clone, Copy)]
+#[derive(Clone, Copy, Debug, PartialEq, Eq)]
 pub struct AppInfoBdmv {
     pub initial_output_mode_preference: u8,
     pub content_exist_flag: u8,
@@ -28,7 +28,7 @@ pub struct AppInfoBdmv {
 }
 
 // What an entry says; the five bytes of a BD-J name are asked for by `bdjo_file_name`.
-#[derive(Drop)]
+#[derive(Clone, Copy, Debug, PartialEq, Eq)]
 pub enum IndexObjectType {
     Hdmv {
         playback_type: u8,
@@ -40,7 +40,7 @@ pub enum IndexObjectType {
 }
 
 // What a file holds beside its titles.
-#[derive(Drop)]
+#[derive(Clone, Copy, Debug, PartialEq, Eq)]
 pub struct IndexBdmv {
     pub version: u32,
     pub app_info: AppInfoBdmv,
@@ -49,302 +49,253 @@ pub struct IndexBdmv {
     pub titles: u16,
 }
 
-#[derive(Drop)]
-pub enum Parsed {
-    Read(IndexBdmv),
-    Refused(Refusal),
-}
-
-// What stands at an entry; a title that the disc doesn't have is nothing.
-#[derive(Drop)]
-pub enum IndexEntry {
-    Object(IndexObjectType),
-    Nothing,
-    Refused(Refusal),
-}
-
-// Where an entry leads.
-#[derive(Drop)]
-pub enum Lead {
-    Object(u16),
-    Nothing,
-}
-
-#[derive(Drop)]
-pub enum Resolved {
-    Leads(Lead),
-    Refused(Refusal),
-}
-
-// Where an entry's twelve bytes stand.
-#[derive(Drop)]
-pub enum Place {
-    At(usize),
-    Nowhere,
-}
-
 impl IndexBdmv {
     // The version, the AppInfo, the two special entries and the number of titles.
-    pub fn parse(index: &[u8]) -> Parsed
+    #[tactic(auto, unfolding(crate::specs::Rules::parse_of))]
+    pub fn parse(index: &[u8]) -> Result<IndexBdmv, Refusal>
         ensures { result ≡ parse_of index.now }
     {
-        let found = verdict(index);
-        match found {
-            Verdict::Refused(why) => Parsed::Refused(why),
-            Verdict::Fine => Parsed::Read(index_of(index)),
-        }
+        Ok(Index::read(index)?.record())
     }
 
-    // What entry 1..65,535 (a title), 65,536 (first playback) or 65,537 (top menu) says.
-    pub fn entry(index: &[u8], entry: u32) -> IndexEntry
+    // What entry 1..65,535 (a title), 65,536 (first playback) or 65,537 (top menu) says; nothing where the disc lacks it.
+    #[tactic(auto, unfolding(crate::specs::Rules::entry_of))]
+    pub fn entry(index: &[u8], entry: u32) -> Result<Option<IndexObjectType>, Refusal>
         ensures { result ≡ entry_of index.now entry }
     {
-        let found = asked(index, entry);
-        match found {
-            Verdict::Refused(why) => IndexEntry::Refused(why),
-            Verdict::Fine => entry_of(index, entry),
-        }
+        Ok(asked(index, entry)?.entry(entry))
     }
 
     // The five bytes of a BD-J entry's name, a part of the file; else nothing.
+    #[tactic(auto, unfolding(crate::specs::Rules::name_of))]
     pub fn bdjo_file_name(index: &[u8], entry: u32) -> &[u8]
         ensures { result.now ≡ name_of index.now entry }
     {
-        let found = asked(index, entry);
-        match found {
-            Verdict::Refused(_) => &index[..0],
-            Verdict::Fine => name_of(index, entry),
+        match asked(index, entry) {
+            Ok(found) => found.name(entry),
+            Err(_) => &index[..0],
         }
     }
 
-    // The object that an entry leads to.
-    pub fn resolve_movie_object(index: &[u8], entry: u32) -> Resolved
+    // The object that an entry leads to, if it leads to one.
+    #[tactic(auto, unfolding(crate::specs::Rules::resolve_movie_object))]
+    pub fn resolve_movie_object(index: &[u8], entry: u32) -> Result<Option<u16>, Refusal>
         ensures { result ≡ resolve_movie_object index.now entry }
     {
-        let found = asked(index, entry);
-        match found {
-            Verdict::Refused(why) => Resolved::Refused(why),
-            Verdict::Fine => Resolved::Leads(resolve(index, entry)),
-        }
+        Ok(asked(index, entry)?.resolve(entry))
     }
 }
 
 // Whether the file is read.
-pub fn verdict(index: &[u8]) -> Verdict
+#[tactic(auto, using(crate::specs::Laws::app_in), unfolding(crate::specs::Rules::verdict_of))]
+pub fn verdict(index: &[u8]) -> Result<(), Refusal>
     ensures { result ≡ verdict_of index.now }
 {
-    let head = header(index, INDX);
-    let Verdict::Fine = head else {
-        return head;
-    };
-    let app = app_info_verdict(index);
-    let Verdict::Fine = app else {
-        return app;
-    };
+    header(index, INDX)?;
+    app_info_verdict(index)?;
     indexes_verdict(index)
 }
 
 // Whether the AppInfo has its two bytes and ends within the file.
-fn app_info_verdict(index: &[u8]) -> Verdict
+#[tactic(auto, unfolding(crate::specs::Rules::app_info_verdict))]
+fn app_info_verdict(index: &[u8]) -> Result<(), Refusal>
     ensures { result ≡ app_info_verdict index.now }
 {
-    let Moved::To(at) = Reader::new().seek(index, 40) else {
-        return Verdict::Refused(Refusal::BadBody);
-    };
-    let Word::Value(length, info) = at.read_u32(index) else {
-        return Verdict::Refused(Refusal::BadBody);
-    };
+    let mut r = Reader::new(index);
+    r.seek(40)?;
+    let length = r.read_u32()?;
     if length < 2 {
-        return Verdict::Refused(Refusal::BadBody);
+        return Err(Refusal::BadBody);
     }
-    let Moved::To(_) = info.skip(index, length as usize) else {
-        return Verdict::Refused(Refusal::BadBody);
-    };
-    Verdict::Fine
+    r.skip(length as usize)
 }
 
-// Whether the Indexes end within the file and their entries are good.
-fn indexes_verdict(index: &[u8]) -> Verdict
+// Whether the Indexes, which start where bytes 8..11 say, end within the file and their entries are good.
+#[tactic(auto, unfolding(crate::specs::Rules::indexes_verdict, crate::specs::Rules::titles_verdict))]
+fn indexes_verdict(index: &[u8]) -> Result<(), Refusal>
     requires { 40 ≤ length index.now }
     ensures { result ≡ indexes_verdict index.now (start_of index.now) }
 {
-    let Moved::To(special) = open_indexes(index) else {
-        return Verdict::Refused(Refusal::BadBody);
-    };
-    let passed = parse_objects(index, special, 2);
-    match passed {
-        Moved::Refused(why) => Verdict::Refused(why),
-        Moved::To(number) => titles_verdict(index, number),
-    }
+    let mut r = open_indexes(index)?;
+    parse_objects(&mut r, 2)?;
+    let titles = r.read_u16()?;
+    parse_objects(&mut r, titles)
 }
 
-// To where bytes 8..11 say, and past the length there; the stated end lies within the file.
-fn open_indexes(index: &[u8]) -> Moved
+// Past the length of the Indexes, whose stated end lies within the file.
+#[tactic(auto, unfolding(crate::specs::Rules::stated_verdict, crate::specs::Rules::start_of))]
+fn open_indexes(index: &[u8]) -> Result<Reader, Refusal>
     requires { 40 ≤ length index.now }
-    ensures { result ≡ moved_as (stated_verdict index.now (start_of index.now)) (start_of index.now + 4) }
+    ensures { Opened index.now result }
 {
-    let Moved::To(at) = Reader::new().seek(index, 8) else {
-        return Moved::Refused(Refusal::BadBody);
-    };
-    let Word::Value(start, _) = at.read_u32(index) else {
-        return Moved::Refused(Refusal::BadBody);
-    };
-    let Moved::To(indexes) = at.seek(index, start as usize) else {
-        return Moved::Refused(Refusal::BadBody);
-    };
-    let Word::Value(length, body) = indexes.read_u32(index) else {
-        return Moved::Refused(Refusal::BadBody);
-    };
-    let Moved::To(_) = body.skip(index, length as usize) else {
-        return Moved::Refused(Refusal::BadBody);
-    };
-    Moved::To(body)
-}
-
-// Whether the number of titles, which stands at a position, and the titles behind it are good.
-fn titles_verdict(index: &[u8], at: Reader) -> Verdict
-    ensures { result ≡ titles_from index.now at.pos }
-{
-    let Half::Value(n, first) = at.read_u16(index) else {
-        return Verdict::Refused(Refusal::BadBody);
-    };
-    let passed = parse_objects(index, first, n);
-    match passed {
-        Moved::Refused(why) => Verdict::Refused(why),
-        Moved::To(_) => Verdict::Fine,
-    }
+    let mut r = Reader::new(index);
+    r.seek(8)?;
+    let start = r.read_u32()?;
+    r.seek(start as usize)?;
+    let length = r.read_u32()?;
+    let mut end = r;
+    end.skip(length as usize)?;
+    Ok(r)
 }
 
 // Past n entries, or the first refusal among them.
-fn parse_objects(index: &[u8], first: Reader, n: u16) -> Moved
-    ensures { result ≡ moved_as (entries_verdict index.now first.pos n) (first.pos + 12 * n) }
+#[tactic(auto, using(crate::specs::Laws::entries_none, crate::specs::Laws::entries_more, crate::specs::Laws::entries_refused))]
+fn parse_objects(r: &mut Reader, n: u16) -> Result<(), Refusal>
+    ensures same { r.new.buf ≡ r.old.buf }
+    ensures read { result ≡ entries_verdict r.old.buf.now r.old.pos n }
+    ensures moved { OnOk result (r.new.pos ≡ r.old.pos + 12 * n) }
 {
-    let mut at = first;
-    let mut k: u16 = 0;
-    while k < n {
-        let passed = parse_object(index, at);
-        let Moved::To(next) = passed else {
-            return passed;
-        };
-        at = next;
-        k += 1;
+    for _k in 0..n {
+        parse_object(r)?;
     }
-    Moved::To(at)
+    Ok(())
 }
 
 // Past one entry; all of its twelve bytes are read before they are judged.
-fn parse_object(index: &[u8], entry: Reader) -> Moved
-    ensures { result ≡ moved_as (entry_verdict index.now entry.pos) (entry.pos + 12) }
+#[tactic(auto, unfolding(crate::specs::Rules::entry_verdict))]
+fn parse_object(r: &mut Reader) -> Result<(), Refusal>
+    ensures same { r.new.buf ≡ r.old.buf }
+    ensures read { result ≡ entry_verdict r.old.buf.now r.old.pos }
+    ensures moved { OnOk result (r.new.pos ≡ r.old.pos + 12) }
 {
-    let at = entry.pos;
-    let Byte::Value(first, rest) = entry.read_u8(index) else {
-        return Moved::Refused(Refusal::BadBody);
-    };
-    let Moved::To(next) = rest.skip(index, 11) else {
-        return Moved::Refused(Refusal::BadBody);
-    };
-    let kind = first / 64;
-    if kind == 1 {
-        return Moved::To(next);
+    let at = r.pos;
+    let kind = r.read_u8()? / 64;
+    r.skip(11)?;
+    if kind == 1 || kind == 2 && is_utf8_name(r.buf, at + 4) {
+        Ok(())
+    } else {
+        Err(Refusal::BadEntry)
     }
-    if kind == 2 {
-        if is_utf8_name(index, at + 4) {
-            return Moved::To(next);
+}
+
+// An index that is read; clauses see its bytes.
+#[derive(Drop)]
+pub struct Index<'a> {
+    file: &'a [u8],
+}
+
+impl<'a> Model for Index<'a> {
+    ghost Value = { List ℕ };
+
+    ghost view = { λ s. s.file.now };
+
+    ghost invariant = { λ s. verdict_of s.file.now ≡ Ok tt };
+}
+
+impl<'a> Index<'a> {
+    pub fn read(file: &'a [u8]) -> Result<Self, Refusal>
+        ensures { result ≡ given (verdict_of file.now) file.now }
+    {
+        verdict(file)?;
+        Ok(Index { file })
+    }
+
+    // The object that an entry leads to; first playback, top menu and titles alike.
+    #[tactic(auto, using(crate::specs::Laws::place_in), unfolding(crate::specs::Rules::resolve_of))]
+    pub fn resolve(&self, entry: u32) -> Option<u16>
+        ensures { result ≡ resolve_of self.now entry }
+    {
+        let at = self.place(entry)?;
+        lead_at(self.file, at)
+    }
+
+    // What an entry says.
+    #[tactic(auto, using(crate::specs::Laws::place_in))]
+    pub fn entry(&self, entry: u32) -> Option<IndexObjectType>
+        ensures { result ≡ entry_from self.now (place_of self.now entry) }
+    {
+        let at = self.place(entry)?;
+        Some(object_at(self.file, at))
+    }
+
+    // The five bytes of a BD-J entry's name, a part of the file; else nothing.
+    #[tactic(auto, using(crate::specs::Laws::place_in))]
+    pub fn name(&self, entry: u32) -> &'a [u8]
+        ensures { result.now ≡ name_from self.now (place_of self.now entry) }
+    {
+        match self.place(entry) {
+            Some(at) if self.file[at] / 64 == 2 => &self.file[at + 4..at + 9],
+            _ => &self.file[..0],
         }
-        return Moved::Refused(Refusal::BadEntry);
     }
-    Moved::Refused(Refusal::BadEntry)
-}
 
-// The object that an entry of an accepted file leads to; first playback, top menu and titles alike.
-pub fn resolve(index: &[u8], entry: u32) -> Lead
-    requires { verdict_of index.now ≡ Fine }
-    ensures { result ≡ resolve_of index.now entry }
-{
-    let place = place_of(index, entry);
-    match place {
-        Place::At(at) => lead_at(index, at),
-        Place::Nowhere => Lead::Nothing,
+    // What the file holds beside its titles.
+    #[tactic(auto, using(crate::specs::Laws::long, crate::specs::Laws::number_in), unfolding(crate::specs::Rules::index_of))]
+    fn record(&self) -> IndexBdmv
+        ensures { result ≡ index_of self.now }
+    {
+        let start = self.start();
+        IndexBdmv {
+            version: be32(self.file, 4),
+            app_info: app_info_of(self.file[44], self.file[45]),
+            first_playback_title: object_at(self.file, start + 4),
+            menu_title: object_at(self.file, start + 16),
+            titles: self.title_count(),
+        }
     }
-}
 
-// Where the Indexes start.
-fn start_of(index: &[u8]) -> usize
-    requires { verdict_of index.now ≡ Fine }
-    ensures { result ≡ start_of index.now }
-{
-    be32(index, 8) as usize
-}
+    // Where the Indexes start.
+    #[tactic(auto, using(crate::specs::Laws::long), unfolding(crate::specs::Rules::start_of))]
+    fn start(&self) -> usize
+        ensures { (result ≡ start_of self.now) × (result < 2 ^ 32) }
+    {
+        be32(self.file, 8) as usize
+    }
 
-fn title_count(index: &[u8]) -> u16
-    requires { verdict_of index.now ≡ Fine }
-    ensures { result ≡ title_count index.now }
-{
-    be16(index, start_of(index) + 28)
-}
+    #[tactic(auto, using(crate::specs::Laws::number_in), unfolding(crate::specs::Rules::title_count))]
+    fn title_count(&self) -> u16
+        ensures { result ≡ title_count self.now }
+    {
+        be16(self.file, self.start() + 28)
+    }
 
-fn place_of(index: &[u8], entry: u32) -> Place
-    requires { verdict_of index.now ≡ Fine }
-    ensures { result ≡ place_of index.now entry }
-{
-    let start = start_of(index);
-    if entry == FIRST_PLAYBACK {
-        return Place::At(start + 4);
+    // Where an entry's twelve bytes stand.
+    #[tactic(auto, using(crate::specs::Laws::number_in), unfolding(crate::specs::Rules::place_of))]
+    fn place(&self, entry: u32) -> Option<usize>
+        ensures { result ≡ place_of self.now entry }
+    {
+        let start = self.start();
+        match entry {
+            FIRST_PLAYBACK => Some(start + 4),
+            TOP_MENU => Some(start + 16),
+            0 => None,
+            _ if entry <= u32::from(self.title_count()) => {
+                Some(start + 18 + 12 * (entry as usize))
+            }
+            _ => None,
+        }
     }
-    if entry == TOP_MENU {
-        return Place::At(start + 16);
-    }
-    if entry == 0 {
-        return Place::Nowhere;
-    }
-    if entry <= title_count(index) as u32 {
-        return Place::At(start + 18 + 12 * (entry as usize));
-    }
-    Place::Nowhere
 }
 
 // An HDMV entry leads to its object.
-fn lead_at(index: &[u8], at: usize) -> Lead
+fn lead_at(index: &[u8], at: usize) -> Option<u16>
     requires { at + 12 ≤ length index.now }
     ensures { result ≡ lead_at index.now at }
 {
     if index[at] / 64 == 1 {
-        return Lead::Object(be16(index, at + 4));
+        Some(be16(index, at + 4))
+    } else {
+        None
     }
-    Lead::Nothing
 }
 
-// Whether the file is read and the number is an entry's.
-fn asked(index: &[u8], entry: u32) -> Verdict
-    ensures { result ≡ first_of (verdict_of index.now) (is_entry entry) }
+// The index, if it is read and the number is an entry's.
+fn asked(index: &[u8], entry: u32) -> Result<Index, Refusal>
+    ensures { result ≡ given (first_of (verdict_of index.now) (is_entry entry)) index.now }
 {
-    verdict(index).or_else(is_entry(entry))
+    let found = Index::read(index)?;
+    is_entry(entry)?;
+    Ok(found)
 }
 
-fn is_entry(entry: u32) -> Verdict
+fn is_entry(entry: u32) -> Result<(), Refusal>
     ensures { result ≡ is_entry entry }
 {
-    if entry <= TOP_MENU {
-        return Verdict::Fine;
-    }
-    Verdict::Refused(Refusal::NotAnEntry)
-}
-
-fn index_of(index: &[u8]) -> IndexBdmv
-    requires { verdict_of index.now ≡ Fine }
-    ensures { result ≡ index_of index.now }
-{
-    let start = start_of(index);
-    IndexBdmv {
-        version: be32(index, 4),
-        app_info: app_info_of(index[44], index[45]),
-        first_playback_title: object_at(index, start + 4),
-        menu_title: object_at(index, start + 16),
-        titles: title_count(index),
-    }
+    Refusal::NotAnEntry.refused_if(TOP_MENU < entry)
 }
 
 // The four fields of the AppInfo's two bytes.
+#[tactic(auto, unfolding(crate::specs::Rules::app_info_of))]
 fn app_info_of(a: u8, b: u8) -> AppInfoBdmv
     ensures { result ≡ app_info_of a b }
 {
@@ -356,44 +307,18 @@ fn app_info_of(a: u8, b: u8) -> AppInfoBdmv
     }
 }
 
+#[tactic(auto, unfolding(crate::specs::Rules::object_at))]
 fn object_at(index: &[u8], at: usize) -> IndexObjectType
     requires { at + 12 ≤ length index.now }
     ensures { result ≡ object_at index.now at }
 {
     let playback_type = index[at + 2] / 64;
     if index[at] / 64 == 1 {
-        return IndexObjectType::Hdmv {
+        IndexObjectType::Hdmv {
             playback_type,
             movie_object_id_ref: be16(index, at + 4),
-        };
+        }
+    } else {
+        IndexObjectType::BdJ { playback_type }
     }
-    IndexObjectType::BdJ { playback_type }
-}
-
-// What an entry of an accepted file says.
-pub fn entry_of(index: &[u8], entry: u32) -> IndexEntry
-    requires { verdict_of index.now ≡ Fine }
-    ensures { result ≡ entry_from index.now (place_of index.now entry) }
-{
-    let place = place_of(index, entry);
-    match place {
-        Place::At(at) => IndexEntry::Object(object_at(index, at)),
-        Place::Nowhere => IndexEntry::Nothing,
-    }
-}
-
-// The five bytes of a BD-J entry's name in an accepted file.
-pub fn name_of(index: &[u8], entry: u32) -> &[u8]
-    requires { verdict_of index.now ≡ Fine }
-    ensures { result.now ≡ name_from index.now (place_of index.now entry) }
-{
-    let place = place_of(index, entry);
-    let Place::At(at) = place else {
-        return &index[..0];
-    };
-    if index[at] / 64 == 2 {
-        let start = at + 4;
-        return &index[start..start + 5];
-    }
-    &index[..0]
 }

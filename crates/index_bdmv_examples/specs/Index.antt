@@ -1,16 +1,11 @@
 -- Examples of an index.bdmv, read and written (document 01, module 6). Assumes nothing.
-use Rattle.std.specs.Prelude.{◌≡◌, refl, List, [], ◌∷◌, ◌++◌, ℕ, ◌*◌, set, take, drop, replicate}
+use Rattle.std.specs.Prelude.{◌≡◌, refl, List, [], ◌∷◌, ◌++◌, ℕ, ◌*◌, set, take, drop, replicate, Err, None, Ok, Some}
 use Rattle.laws.specs.Firsts.{all, blocks}
 use Rattle.common.specs.Rules.{be2, be4, bytes2, bytes4, header_of, room_verdict}
 use Rattle.error.specs.declared.Refusal.TheVariants.{BadBody, BadEntry, NotEncodable, NotAnEntry}
-use Rattle.error.specs.declared.Verdict.TheVariants.{Fine, Refused}
 use Rattle.utf8.specs.Rules.{lead4, lead3, lead_of, step_of, scan_of, is_utf8}
 use Rattle.index_bdmv.specs.declared.AppInfoBdmv.{AppInfoBdmv}
 use Rattle.index_bdmv.specs.declared.IndexObjectType.TheVariants.{Hdmv, BdJ}
-use Rattle.index_bdmv.specs.declared.Parsed.TheVariants as parsed
-use Rattle.index_bdmv.specs.declared.IndexEntry.TheVariants as entry
-use Rattle.index_bdmv.specs.declared.Lead.TheVariants as lead
-use Rattle.index_bdmv.specs.declared.Resolved.TheVariants as resolved
 use Rattle.index_bdmv.specs.Rules.{app_info_verdict, app_info_of, entry_verdict, entries_verdict, start_of, stated_verdict, titles_verdict, indexes_verdict, verdict_of, title_count, place_of, resolve_of, object_at, index_of, parse_of, entry_from, entry_of, resolve_movie_object, name_from, name_of}
 use Rattle.index_bdmv_write.specs.Rules.{Entries, entries, name_given, titles_of, tail_bytes, entry_bytes, entry_of_record, head_bytes, special_bytes, size_of, file_of, kind_fits, lengths_fit, encodable, write_verdict, entry_read}
 
@@ -40,43 +35,43 @@ app = record { initial_output_mode_preference = 0; content_exist_flag = 1; video
 abbrev given : Entries
 given = entries (1 ∷ 2 ∷ 1 ∷ []) (0 ∷ 1 ∷ 2 ∷ []) (0 ∷ 0 ∷ 3 ∷ []) (replicate 15 48)
 
-pub whole_file : verdict_of index ≡ Fine
+pub whole_file : verdict_of index ≡ Ok tt
 unfolding opened
 whole_file = refl
 
 -- Entries may run past the stated end of the Indexes.
-pub past_the_stated_end : verdict_of (set index 81 0) ≡ Fine
+pub past_the_stated_end : verdict_of (set index 81 0) ≡ Ok tt
 unfolding opened
 past_the_stated_end = refl
 
 -- The stated end of the AppInfo must lie within the file.
-pub app_info_past_the_end : verdict_of (set index 43 77) ≡ Refused BadBody
+pub app_info_past_the_end : verdict_of (set index 43 77) ≡ Err BadBody
 unfolding opened
 app_info_past_the_end = refl
 
 -- Bad entry: object type 0 or 3.
-pub object_type_3 : verdict_of (set index 82 192) ≡ Refused BadEntry
+pub object_type_3 : verdict_of (set index 82 192) ≡ Err BadEntry
 unfolding opened
 object_type_3 = refl
 
 -- AppInfo: bits 3 and 2 of its first byte, then two halves of the second; and how many titles there are.
 pub parsed_file : parse_of index
-    ≡ parsed.Read (record { version = 0x30323030; app_info = app; first_playback_title = Hdmv 0 0; menu_title = BdJ 1; titles = 1 })
+    ≡ (Ok (record { version = 0x30323030; app_info = app; first_playback_title = Hdmv 0 0; menu_title = BdJ 1; titles = 1 }))
 unfolding opened
 parsed_file = refl
 
 -- An HDMV entry: playback type and object.
-pub title_1 : entry_of index 1 ≡ entry.Object (Hdmv 2 3)
+pub title_1 : entry_of index 1 ≡ Ok (Some (Hdmv 2 3))
 unfolding opened
 title_1 = refl
 
 -- Title 0 never resolves.
-pub title_0 : resolve_movie_object index 0 ≡ resolved.Leads lead.Nothing
+pub title_0 : resolve_movie_object index 0 ≡ Ok None
 unfolding opened
 title_0 = refl
 
 -- Not an entry: over 65,537.
-pub entry_65538 : resolve_movie_object index 65538 ≡ resolved.Refused NotAnEntry
+pub entry_65538 : resolve_movie_object index 65538 ≡ Err NotAnEntry
 unfolding opened
 entry_65538 = refl
 
@@ -86,12 +81,12 @@ unfolding opened
 name_of_the_top_menu = refl
 
 -- Of an accepted file: title 1 leads to its object, and a BD-J entry to none.
-pub leads : resolve_of index 1 ∷ resolve_of index 65537 ∷ [] ≡ lead.Object 3 ∷ lead.Nothing ∷ []
+pub leads : resolve_of index 1 ∷ resolve_of index 65537 ∷ [] ≡ Some 3 ∷ None ∷ []
 unfolding opened
 leads = refl
 
 -- The top menu is a BD-J entry, and there is no title 2.
-pub entries_by_number : entry_from index (place_of index 65537) ∷ entry_from index (place_of index 2) ∷ [] ≡ entry.Object (BdJ 1) ∷ entry.Nothing ∷ []
+pub entries_by_number : entry_from index (place_of index 65537) ∷ entry_from index (place_of index 2) ∷ [] ≡ Some (BdJ 1) ∷ None ∷ []
 unfolding opened
 entries_by_number = refl
 
@@ -111,7 +106,7 @@ unfolding opened
 playback_of_title_1 = refl
 
 -- A BD-J name isn't UTF-8.
-pub bad_name : write_verdict app (entries (1 ∷ 2 ∷ []) (0 ∷ 0 ∷ []) (0 ∷ 0 ∷ []) (replicate 10 0xFF)) 108 ≡ Refused NotEncodable
+pub bad_name : write_verdict app (entries (1 ∷ 2 ∷ []) (0 ∷ 0 ∷ []) (0 ∷ 0 ∷ []) (replicate 10 0xFF)) 108 ≡ Err NotEncodable
 unfolding opened
 bad_name = refl
 
@@ -123,7 +118,7 @@ abbrev reread : Entries
 reread = entries (1 ∷ 2 ∷ 1 ∷ []) (0 ∷ 1 ∷ 2 ∷ []) (0 ∷ 0 ∷ 3 ∷ []) (replicate 5 0 ++ name_of index 65537 ++ replicate 5 0)
 
 -- Writing then reading gives the record back.
-pub title_read_back : entry_of made 1 ≡ entry.Object (entry_read given 2)
+pub title_read_back : entry_of made 1 ≡ Ok (Some (entry_read given 2))
 unfolding opened
 title_read_back = refl
 
@@ -132,7 +127,7 @@ unfolding opened
 name_read_back = refl
 
 -- Reading then writing gives the bytes back, for a file that the writer could have made.
-pub accepted_back : write_verdict app reread 120 ≡ Fine
+pub accepted_back : write_verdict app reread 120 ≡ Ok tt
 unfolding opened
 accepted_back = refl
 

@@ -1,7 +1,7 @@
 -- Laws of the writer: the lengths, what an accepted record has, and what the calls leave. Assumes nothing.
 use Rattle.std.proofs.Math.Path.{◌≡◌, refl}
 use Rattle.std.proofs.Common.{sym, ap, ◌∙◌}
-use Rattle.std.specs.Prelude.{Bool, not, List, [], ◌∷◌, ◌++◌, leb, ltb, length, take, drop, set, replicate}
+use Rattle.std.specs.Prelude.{Bool, not, List, [], ◌∷◌, ◌++◌, leb, ltb, length, take, drop, set, replicate, Ok}
 use Rattle.std.proofs.Math.Bool.{true, false, cond}
 use Prim.Native.Nat.{ℕ, zero, suc, ◌+◌, ◌*◌, ◌-◌, ◌≤◌, ◌<◌}
 use Rattle.std.proofs.Math.Nat.{add-sub_cancel_left}
@@ -19,9 +19,13 @@ use Rattle.utf8.specs.Rules.{is_utf8}
 use Rattle.error.specs.Laws.{both_fine, not_refused}
 use Rattle.error.specs.Rules.{refused_if}
 use Rattle.error.specs.declared.Refusal.TheVariants.{NotEncodable}
-use Rattle.error.specs.declared.Verdict.TheVariants.{Fine}
 use Rattle.index_bdmv.specs.declared.AppInfoBdmv.{AppInfoBdmv}
-use Rattle.index_bdmv_write.specs.Rules.{Entries, kind_of, playback_of, object_of, name_given, titles_of, tail_bytes, entry_bytes, entry_of_record, app_bytes, head_bytes, special_bytes, title_bytes, size_of, file_of, app_fits, kind_fits, entry_fits, lengths_fit, encodable, write_verdict}
+use Rattle.index_bdmv_write.specs.Rules.{Entries, entries, kind_of, playback_of, object_of, name_given, titles_of, tail_bytes, entry_bytes, entry_of_record, app_bytes, head_bytes, special_bytes, title_bytes, size_of, file_of, app_fits, kind_fits, entry_fits, lengths_fit, encodable, write_verdict}
+use Rattle.index_bdmv_write.specs.declared.Entries.{Entries as Lent}
+
+-- the record that is lent to the writer
+abbrev pub lent : Lent → Entries
+lent e = entries e.kinds.now e.playbacks.now e.objects.now e.names.now
 
 -- ---- lengths
 
@@ -180,7 +184,7 @@ pub record Accepted (app : AppInfoBdmv) (r : Entries) (room : ℕ) : Type 0 wher
   pub fits : size_of r ≤ room
 
 module _ (app : AppInfoBdmv) (r : Entries) (room : ℕ) where
-  pub accepted : write_verdict app r room ≡ Fine → Accepted app r room
+  pub accepted : write_verdict app r room ≡ Ok tt → Accepted app r room
   unfolding write_verdict
   accepted e =
       let p1 = both_fine (refused_if (not (encodable app r)) NotEncodable) _ e in
@@ -191,7 +195,7 @@ module _ (app : AppInfoBdmv) (r : Entries) (room : ℕ) where
         fits = p2.1;
       }
 
-  pub accepts : Accepted app r room → write_verdict app r room ≡ Fine
+  pub accepts : Accepted app r room → write_verdict app r room ≡ Ok tt
   unfolding write_verdict
   accepts a = simp (encodable_made r app a.fields, room_made (size_of r) room a.short a.fits)
 

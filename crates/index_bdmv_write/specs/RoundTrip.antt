@@ -1,5 +1,5 @@
 -- Writing then reading gives the record back, and reading then writing the bytes of a file that could be written. Assumes nothing.
-use Rattle.std.specs.Prelude.{◌≡◌, Bool, cond, leb, drop}
+use Rattle.std.specs.Prelude.{◌≡◌, Bool, cond, leb, drop, Err, Ok, Some}
 use Rattle.std.proofs.Math.Path.{refl, sym, ap}
 use Rattle.std.proofs.Common.{◌∙◌, add-zero, get_or-drop, drop-drop}
 use Rattle.std.proofs.Math.Bool.{true, false}
@@ -18,17 +18,14 @@ use Rattle.common.specs.Rules.{be2, be4, bytes2, bytes4}
 use Rattle.common.specs.Laws.{header_fine, be2_skip, be2_bytes2, be4_bytes4, length_bytes2, length_bytes4, bytes2_be2, bytes4_be4, zeros_at}
 use Rattle.utf8.specs.Rules.{is_utf8}
 use Rattle.error.specs.declared.Refusal.TheVariants.{BadBody, BadEntry}
-use Rattle.error.specs.declared.Verdict.TheVariants.{Fine, Refused}
 use Rattle.index_bdmv.specs.declared.AppInfoBdmv.{AppInfoBdmv}
 use Rattle.index_bdmv.specs.declared.IndexObjectType.TheVariants.{Hdmv, BdJ}
 use Rattle.index_bdmv.specs.declared.IndexBdmv.{IndexBdmv}
-use Rattle.index_bdmv.specs.declared.IndexEntry.TheVariants.{Object}
-use Rattle.index_bdmv.specs.declared.Parsed.TheVariants.{Read}
-use Rattle.index_bdmv.specs.declared.Place.TheVariants.{At}
 use Rattle.index_bdmv.specs.Rules.{indx, kind_at, playback_at, name_at, app_info_verdict, app_info_of, entry_verdict, entries_verdict, start_of, stated_verdict, titles_verdict, indexes_verdict, verdict_of, title_count, place_of, object_at, index_of, parse_of, is_entry, entry_of, name_of}
 use Rattle.index_bdmv.specs.Laws as reader
 use Rattle.index_bdmv_write.specs.Rules.{Entries, kind_of, playback_of, object_of, name_given, titles_of, tail_bytes, entry_bytes, entry_of_record, app_bytes, head_bytes, special_bytes, title_bytes, size_of, file_of, entry_fits, write_verdict, spot, entry_number, entry_read, index_read, Holds, Unused, Made, WritingThenReading, ReadingThenWriting}
 use Rattle.index_bdmv_write.specs.Laws.{Kind, hdmv, bdj, AppFits, Lengths, lengths_tell, lengths_made, fits_made, good_kind, Accepted, accepted, accepts, length_head_bytes, length_name, length_entry, length_special, length_titles}
+use Rattle.error.specs.Rules.{fine as passed}
 
 -- ---- what stands in a list from a place on
 
@@ -119,7 +116,7 @@ module _ {l : List ℕ} {at kind playback object : ℕ} {name : List ℕ} (d : L
   playback_is : playback_at l at ≡ playback
   playback_is = omega (arith, d.byte2)
 
-  verdict_is : Kind kind name → entry_verdict l at ≡ Fine
+  verdict_is : Kind kind name → entry_verdict l at ≡ Ok tt
   unfolding entry_verdict
   verdict_is (hdmv e) = rw (le-leb _ _ d.inside, eq-eqb _ _ (kind_is ∙ e))
   verdict_is (bdj e u) = rw (le-leb _ _ d.inside, ne_eqb (kind_at l at) 1 (λ z. omega (arith, kind_is)), eq-eqb _ _ (kind_is ∙ e), d.named e, u)
@@ -146,16 +143,16 @@ module _ {l : List ℕ} {at kind playback object : ℕ} {name : List ℕ} (d : L
 spot_title : (k : ℕ) → 78 + 18 + 12 * (k + 1) ≡ 108 + 12 * k
 spot_title k = omega arith
 
-placed : (s : List ℕ) (k : ℕ) → start_of s ≡ 78 → title_count s < 65536 → k < title_count s + 2 → place_of s (entry_number k) ≡ At (spot k)
-placed s zero st few h = reader.place_first s 65536 refl ∙ ap (λ (x : ℕ). At (x + 4)) st
-placed s (suc zero) st few h = reader.place_menu s 65537 (λ e. omega arith) refl ∙ ap (λ (x : ℕ). At (x + 16)) st
+placed : (s : List ℕ) (k : ℕ) → start_of s ≡ 78 → title_count s < 65536 → k < title_count s + 2 → place_of s (entry_number k) ≡ Some (spot k)
+placed s zero st few h = reader.place_first s 65536 refl ∙ ap (λ (x : ℕ). (Some (x + 4))) st
+placed s (suc zero) st few h = reader.place_menu s 65537 (λ e. omega arith) refl ∙ ap (λ (x : ℕ). (Some (x + 16))) st
 placed s (suc (suc k)) st few h =
     reader.place_title s (k + 1) (λ e. omega arith) (λ e. omega arith) (λ e. omega arith) (omega arith)
-    ∙ ap (λ (x : ℕ). At (x + 18 + 12 * (k + 1))) st
-    ∙ ap At (spot_title k)
+    ∙ ap (λ (x : ℕ). (Some (x + 18 + 12 * (k + 1)))) st
+    ∙ ap Some (spot_title k)
 
 -- such a number is an entry's
-numbered : (k n : ℕ) → n < 65536 → k < n + 2 → is_entry (entry_number k) ≡ Fine
+numbered : (k n : ℕ) → n < 65536 → k < n + 2 → is_entry (entry_number k) ≡ Ok tt
 numbered zero n few h = refl
 numbered (suc zero) n few h = refl
 numbered (suc (suc k)) n few h = rw (le-leb (k + 1) 65537 (omega arith))
@@ -277,7 +274,7 @@ module _ (version : ℕ) (app : AppInfoBdmv) (r : Entries) (room : ℕ) (a : Acc
   unfolding n
   kind_of_is k h = good_kind r a.fields.good k h
 
-  entry_fine : (k : ℕ) → k < n → entry_verdict file (spot k) ≡ Fine
+  entry_fine : (k : ℕ) → k < n → entry_verdict file (spot k) ≡ Ok tt
   entry_fine k h = verdict_is (entry_laid k h) (kind_of_is k h)
 
   -- the fields of the header
@@ -314,7 +311,7 @@ module _ (version : ℕ) (app : AppInfoBdmv) (r : Entries) (room : ℕ) (a : Acc
   titles_back = ap (λ (x : ℕ). be2 file (x + 28)) start_back ∙ behind_2 file _ 106 from_106 0 ∙ be2_bytes2 _ t few
 
   -- the verdict, test by test
-  app_fine : app_info_verdict file ≡ Fine
+  app_fine : app_info_verdict file ≡ Ok tt
   unfolding app_info_verdict
   app_fine =
       rw (
@@ -323,29 +320,29 @@ module _ (version : ℕ) (app : AppInfoBdmv) (r : Entries) (room : ℕ) (a : Acc
         le-leb (44 + be4 file 40) (length file) (omega (arith, app_length, length_file)),
       )
 
-  stated_fine : stated_verdict file 78 ≡ Fine
+  stated_fine : stated_verdict file 78 ≡ Ok tt
   unfolding stated_verdict
   stated_fine =
       rw (le-leb (78 + 4) (length file) (omega (arith, length_file)), le-leb (78 + 4 + be4 file 78) (length file) (omega (arith, stated_back, length_file)))
 
-  special_fine : entries_verdict file 82 2 ≡ Fine
+  special_fine : entries_verdict file 82 2 ≡ Ok tt
   special_fine = reader.entries_made file 82 2 two
     where
-      two : (k : ℕ) → k < 2 → entry_verdict file (82 + 12 * k) ≡ Fine
+      two : (k : ℕ) → k < 2 → entry_verdict file (82 + 12 * k) ≡ Ok tt
       two zero h = entry_fine 0 (omega (arith, count))
       two (suc zero) h = entry_fine 1 (omega (arith, count))
       two (suc (suc k)) h = absurd (omega arith)
 
-  titles_fine : entries_verdict file 108 t ≡ Fine
+  titles_fine : entries_verdict file 108 t ≡ Ok tt
   titles_fine = reader.entries_made file 108 t (λ k h. entry_fine (suc (suc k)) (omega (arith, count)))
 
-  number_fine : titles_verdict file 78 ≡ Fine
+  number_fine : titles_verdict file 78 ≡ Ok tt
   unfolding titles_verdict title_count
   number_fine =
       rw (le-leb (78 + 30) (length file) (omega (arith, length_file)))
       (ap (entries_verdict file 108) (ap (λ (x : ℕ). be2 file (x + 28)) (sym start_back) ∙ titles_back) ∙ titles_fine)
 
-  fine : verdict_of file ≡ Fine
+  fine : verdict_of file ≡ Ok tt
   unfolding verdict_of indexes_verdict
   fine =
       rw (
@@ -372,18 +369,18 @@ module _ (version : ℕ) (app : AppInfoBdmv) (r : Entries) (room : ℕ) (a : Acc
   unfolding entry_read
   read_back k h = read_is (entry_laid k h) (kind_of_is k h) (o16 k)
 
-  place_back : (k : ℕ) → k < n → place_of file (entry_number k) ≡ At (spot k)
+  place_back : (k : ℕ) → k < n → place_of file (entry_number k) ≡ Some (spot k)
   place_back k h = placed file k start_back (omega (arith, titles_back, few)) (omega (arith, titles_back, count))
 
-  entry_number_is : (k : ℕ) → k < n → is_entry (entry_number k) ≡ Fine
+  entry_number_is : (k : ℕ) → k < n → is_entry (entry_number k) ≡ Ok tt
   entry_number_is k h = numbered k t few (omega (arith, count))
 
-  parse_back : parse_of file ≡ Read (index_read version app r)
+  parse_back : parse_of file ≡ Ok (index_read version app r)
   unfolding parse_of index_of t
   parse_back =
       rw (fine, version_back, app_back, start_back, read_back 0 (omega (arith, count)), read_back 1 (omega (arith, count)), titles_back)
 
-  entry_back : (k : ℕ) → k < n → entry_of file (entry_number k) ≡ Object (entry_read r k)
+  entry_back : (k : ℕ) → k < n → entry_of file (entry_number k) ≡ Ok (Some (entry_read r k))
   unfolding entry_of
   entry_back k h = rw (fine, entry_number_is k h, place_back k h, read_back k h)
 
@@ -454,12 +451,12 @@ one_more : (k : ℕ) → 108 + 12 * suc k ≡ 108 + 12 * k + 12
 one_more k = omega arith
 
 -- what an accepted entry is
-kind_read : (s : List ℕ) (at : ℕ) → entry_verdict s at ≡ Fine → Kind (kind_at s at) (name_at s at)
+kind_read : (s : List ℕ) (at : ℕ) → entry_verdict s at ≡ Ok tt → Kind (kind_at s at) (name_at s at)
 unfolding entry_verdict
 kind_read s at e = go (leb (at + 12) (length s)) (eqb (kind_at s at) 1) refl (eqb (kind_at s at) 2) refl (is_utf8 (name_at s at)) refl e
   where
     go : (i a : Bool) → eqb (kind_at s at) 1 ≡ a → (b : Bool) → eqb (kind_at s at) 2 ≡ b → (u : Bool) → is_utf8 (name_at s at) ≡ u
-        → cond i (cond a Fine (cond b (cond u Fine (Refused BadEntry)) (Refused BadEntry))) (Refused BadBody) ≡ Fine → Kind (kind_at s at) (name_at s at)
+        → cond i (cond a passed (cond b (cond u passed (Err BadEntry)) (Err BadEntry))) (Err BadBody) ≡ passed → Kind (kind_at s at) (name_at s at)
     go false a qa b qb u qu v = let z : ◌≡◌ {A = ℕ} 0 1 = cc in absurd (omega arith)
     go true true qa b qb u qu v = hdmv (eqb-true _ _ qa)
     go true false qa true qb true qu v = bdj (eqb-true _ _ qb) qu
@@ -500,10 +497,10 @@ module _ (s : List ℕ) (version : ℕ) (app : AppInfoBdmv) (r : Entries) (room 
   small : title_count s < 65536
   small = omega (arith, total, ls.few)
 
-  place_is : (k : ℕ) → k < length r.kinds → place_of s (entry_number k) ≡ At (spot k)
+  place_is : (k : ℕ) → k < length r.kinds → place_of s (entry_number k) ≡ Some (spot k)
   place_is k p = placed s k m.start small (omega (arith, total))
 
-  number_is : (k : ℕ) → k < length r.kinds → is_entry (entry_number k) ≡ Fine
+  number_is : (k : ℕ) → k < length r.kinds → is_entry (entry_number k) ≡ Ok tt
   number_is k p = numbered k (title_count s) small (omega (arith, total))
 
   object_at_is : (k : ℕ) → k < length r.kinds → object_at s (spot k) ≡ entry_read r k
@@ -514,7 +511,7 @@ module _ (s : List ℕ) (version : ℕ) (app : AppInfoBdmv) (r : Entries) (room 
   inside k p = reader.place_in s (entry_number k) m.accepted (spot k) (place_is k p)
 
   -- the type, the playback type, and the object or the name of entry k
-  fine_at : (k : ℕ) → k < length r.kinds → entry_verdict s (spot k) ≡ Fine
+  fine_at : (k : ℕ) → k < length r.kinds → entry_verdict s (spot k) ≡ Ok tt
   fine_at zero p = ap (λ (x : ℕ). entry_verdict s (x + 4 + 12 * 0)) (sym m.start) ∙ reader.entries_fine s (start_of s + 4) 2 0 g.special (omega arith)
   fine_at (suc zero) p = ap (λ (x : ℕ). entry_verdict s (x + 4 + 12 * 1)) (sym m.start) ∙ reader.entries_fine s (start_of s + 4) 2 1 g.special (omega arith)
   fine_at (suc (suc k)) p =
@@ -662,7 +659,7 @@ module _ (s : List ℕ) (version : ℕ) (app : AppInfoBdmv) (r : Entries) (room 
       go (hdmv e) = hdmv (sym (same_type k p) ∙ e)
       go (bdj e u) = let q = sym (same_type k p) ∙ e in bdj q (ap is_utf8 (sym (same_name k p q)) ∙ u)
 
-  accepted_back : write_verdict app r room ≡ Fine
+  accepted_back : write_verdict app r room ≡ Ok tt
   unfolding size_of
   accepted_back =
       accepts app r room

@@ -1,18 +1,14 @@
 -- The index.bdmv of a record, what refuses it, and what the writer leaves (document 01, module 6). Assumes nothing.
-use Rattle.std.specs.Prelude.{◌≡◌, Bool, true, false, cond, not, ◌&&◌, List, [], ◌∷◌, ◌++◌, ℕ, zero, suc, ◌+◌, ◌*◌, ◌-◌, ◌%◌, ◌≤◌, ◌<◌, eqb, leb, ltb, length, get_or, take, drop, replicate}
+use Rattle.std.specs.Prelude.{◌≡◌, Bool, true, false, cond, not, ◌&&◌, List, [], ◌∷◌, ◌++◌, ℕ, zero, suc, ◌+◌, ◌*◌, ◌-◌, ◌%◌, ◌≤◌, ◌<◌, eqb, leb, ltb, length, get_or, take, drop, replicate, Ok, Some}
 use Rattle.laws.specs.Firsts.{all, blocks}
 use Rattle.common.specs.Rules.{be4, bytes2, bytes4, room_verdict, Left, left_as}
 use Rattle.utf8.specs.Rules.{is_utf8}
-use Rattle.error.specs.Rules.{first_of, refused_if}
+use Rattle.error.specs.Rules.{first_of, refused_if, Verdict}
 use Rattle.error.specs.declared.Refusal.TheVariants.{NotEncodable}
-use Rattle.error.specs.declared.Verdict.{Verdict}
-use Rattle.error.specs.declared.Verdict.TheVariants as verdict
 use Rattle.index_bdmv.specs.declared.AppInfoBdmv.{AppInfoBdmv}
 use Rattle.index_bdmv.specs.declared.IndexObjectType.{IndexObjectType}
 use Rattle.index_bdmv.specs.declared.IndexObjectType.TheVariants.{Hdmv, BdJ}
 use Rattle.index_bdmv.specs.declared.IndexBdmv.{IndexBdmv}
-use Rattle.index_bdmv.specs.declared.IndexEntry.TheVariants as entry
-use Rattle.index_bdmv.specs.declared.Parsed.TheVariants as parsed
 use Rattle.index_bdmv.specs.Rules.{indx, start_of, title_count, kind_at, verdict_of, parse_of, entry_of, name_of}
 
 -- First playback, top menu, titles: of each its type (1 HDMV, 2 BD-J), playback type, and an object and a name, of which one is used.
@@ -145,8 +141,8 @@ index_read version app r =
 
 -- A file holds a record: the reader's calls give its version, its AppInfo and its entries.
 pub record Holds (file : List ℕ) (version : ℕ) (app : AppInfoBdmv) (r : Entries) : Type 0 where
-  pub head : parse_of file ≡ parsed.Read (index_read version app r)
-  pub entries : (k : ℕ) → k < length r.kinds → entry_of file (entry_number k) ≡ entry.Object (entry_read r k)
+  pub head : parse_of file ≡ Ok (index_read version app r)
+  pub entries : (k : ℕ) → k < length r.kinds → entry_of file (entry_number k) ≡ Ok (Some (entry_read r k))
   pub names : (k : ℕ) → k < length r.kinds → kind_of r k ≡ 2 → name_of file (entry_number k) ≡ name_given r.names k
   pub known : (k : ℕ) → k < length r.kinds → (1 ≤ kind_of r k) × (kind_of r k ≤ 2)
   pub lengths : lengths_fit (length r.kinds) (length r.playbacks) (length r.objects) (length r.names) ≡ true
@@ -162,7 +158,7 @@ pub record Unused (file : List ℕ) (at : ℕ) : Type 0 where
 
 -- The files that the writer could have made: the Indexes follow the AppInfo and end with the file, and what is reserved is zero.
 pub record Made (file : List ℕ) : Type 0 where
-  pub accepted : verdict_of file ≡ verdict.Fine
+  pub accepted : verdict_of file ≡ Ok tt
   pub start : start_of file ≡ 78
   pub app : be4 file 40 ≡ 34
   pub flags : (get_or file 44 0 % 4 ≡ 0) × (get_or file 44 0 < 16)
@@ -175,7 +171,7 @@ pub record Made (file : List ℕ) : Type 0 where
 -- Writing then reading gives the record back, and such a file is one that the writer could have made.
 abbrev pub WritingThenReading : Type 0
 WritingThenReading =
-    (version : ℕ) (app : AppInfoBdmv) (r : Entries) (room : ℕ) → version < 4294967296 → ((k : ℕ) → object_of r k < 65536) → write_verdict app r room ≡ verdict.Fine
+    (version : ℕ) (app : AppInfoBdmv) (r : Entries) (room : ℕ) → version < 4294967296 → ((k : ℕ) → object_of r k < 65536) → write_verdict app r room ≡ Ok tt
     → Holds (file_of version app r) version app r × Made (file_of version app r)
 
 -- Reading then writing gives the bytes back, for each file of bytes that the writer could have made.
@@ -183,4 +179,4 @@ abbrev pub ReadingThenWriting : Type 0
 ReadingThenWriting =
     (file : List ℕ) (version : ℕ) (app : AppInfoBdmv) (r : Entries) (room : ℕ) → ((i : ℕ) → get_or file i 0 < 256) → length file ≤ room
     → Made file → Holds file version app r
-    → (write_verdict app r room ≡ verdict.Fine) × (file_of version app r ≡ file)
+    → (write_verdict app r room ≡ Ok tt) × (file_of version app r ≡ file)

@@ -1,13 +1,9 @@
 -- What the calls for C share: lengths of lent arrays, refusals by number, and what a call hands back and leaves. Assumes nothing.
-use Rattle.std.specs.Prelude.{List, Bool, cond, ◌&&◌, ℕ, length, eqb}
+use Rattle.std.specs.Prelude.{List, Bool, cond, ◌&&◌, ℕ, length, eqb, Err, Ok, Result}
 use Rattle.common.specs.Rules.{Left}
-use Rattle.common.specs.declared.Written.{Written}
-use Rattle.common.specs.declared.Written.TheVariants as written
-use Rattle.error.specs.Rules.{number_of}
+use Rattle.error.specs.Rules.{number_of, Verdict}
 use Rattle.error.specs.declared.Refusal.{Refusal}
 use Rattle.error.specs.declared.Refusal.TheVariants.{BadBuffer}
-use Rattle.error.specs.declared.Verdict.{Verdict}
-use Rattle.error.specs.declared.Verdict.TheVariants as verdict
 
 abbrev pub sized : ℕ → List ℕ → Bool
 sized n l = eqb (length l) n
@@ -27,8 +23,8 @@ ended n s o = record { number = n; session = s; outcome = o }
 
 -- A test's answer: 0, or the refusal's number.
 abbrev pub verdict_number : Verdict → ℕ
-verdict_number verdict.Fine = 0
-verdict_number (verdict.Refused r) = number_of r
+verdict_number (Ok u) = 0
+verdict_number (Err r) = number_of r
 
 -- What a call hands back, and what one lent array then holds.
 pub record Handed : Type 0 where
@@ -63,10 +59,10 @@ measured l t = record { out = l; told = t }
 abbrev pub unmeasured : Refusal → List ℕ → ℕ → Measured
 unmeasured r l k = measured l (size (number_of r) k)
 
--- A written file, and its length.
-abbrev pub file_by : Written → ℕ → Length
-file_by (written.Bytes n) k = size 0 n
-file_by (written.Refused r) k = size (number_of r) k
+-- What was written, and its length.
+abbrev pub length_by : Result ℕ Refusal → ℕ → Length
+length_by (Ok n) k = size 0 n
+length_by (Err r) k = size (number_of r) k
 
 abbrev pub file : Left → ℕ → Measured
-file f k = measured f.out (file_by f.answer k)
+file f k = measured f.out (length_by f.answer k)

@@ -5,21 +5,21 @@ ghost use Rattle.std.specs.Prelude.{◌≡◌, length};
 ghost use Rattle.error.specs.Rules.{number_of};
 ghost use Rattle.lent.specs.Rules.{lengths_fit, verdict_number};
 
-use error::{Refusal, Verdict};
+use error::Refusal;
 
 pub fn refused(why: Refusal) -> u32
     ensures { result ≡ number_of why }
 {
-    why.number() as u32
+    u32::from(why.number())
 }
 
 // 0, or the refusal's number.
-pub fn verdict_number(found: Verdict) -> u32
+pub fn verdict_number(found: Result<(), Refusal>) -> u32
     ensures { result ≡ verdict_number found }
 {
     match found {
-        Verdict::Fine => 0,
-        Verdict::Refused(why) => refused(why),
+        Ok(()) => 0,
+        Err(why) => refused(why),
     }
 }
 
@@ -28,16 +28,13 @@ pub fn put(out: &mut [u32], from: &[u32])
     requires { length out.old ≡ length from.now }
     ensures { out.new ≡ from.now }
 {
-    let mut i = 0;
-    while i < from.len() {
-        out[i] = from[i];
-        i += 1;
-    }
+    out.copy_from_slice(from);
 }
 
 // Whether a drive is lent three numbers of budgets, six of a session and six of an outcome.
+#[tactic(auto, using(std::proofs::lemmas::Bool::Decides::nat_tests), unfolding(crate::specs::Rules::lengths_fit))]
 pub fn lengths_fit(budgets: &[u32], session: &[u32], outcome: &[u32]) -> bool
     ensures { result ≡ lengths_fit budgets.now session.now outcome.now }
 {
-    (budgets.len() == 3) & ((session.len() == 6) & (outcome.len() == 6))
+    budgets.len() == 3 && session.len() == 6 && outcome.len() == 6
 }

@@ -1,5 +1,5 @@
 -- Examples of a command as a line of text (document 01, the listing program; the Rust's `disassemble`). Assumes nothing.
-use Rattle.std.specs.Prelude.{◌≡◌, refl, true, List, ◌++◌, ℕ, length}
+use Rattle.std.specs.Prelude.{◌≡◌, refl, true, List, ◌++◌, ℕ, length, Err, Ok}
 use Rattle.std.proofs.lemmas.List.Edits.{sets}
 use Rattle.laws.specs.Over.{over}
 use Rattle.error.specs.declared.Refusal.TheVariants.{NoRoom}
@@ -12,7 +12,6 @@ use Rattle.nav_command.specs.declared.Operation.TheVariants.{Branch, Set}
 use Rattle.common.specs.Rules.{be4}
 use Rattle.nav_command.specs.Rules.{branch_of, set_of, operand_of, number_of, command_of}
 use Rattle.nav_names.specs.Rules.{mnemonic, name_text}
-use Rattle.nav_list.specs.declared.Listed.TheVariants as listed
 use Rattle.nav_list.specs.Rules.{unknown_text, immediate_text, general_text, status_text, line_of, line_at, listing, list_of}
 use Rattle.command_examples.specs.Commands.{command, p2, move}
 use Rattle.command_examples.specs.Theorems.{long}
@@ -56,12 +55,12 @@ unfolding numeral class_of name_of set_of operand_of be4 command_of mnemonic nam
 protected_register = refl
 
 -- No room: the 13 bytes of P2's line, in twelve.
-twelve_bytes : list_of room 0 (line_at p2 0) ≡ listing (listed.Refused NoRoom) room
+twelve_bytes : list_of room 0 (line_at p2 0) ≡ listing (Err NoRoom) room
 unfolding numeral set_of operand_of be4 command_of mnemonic immediate_text general_text line_of line_at list_of
 twelve_bytes = refl
 
 -- The line goes from a place on, and all else stays; the place after it is told.
-listed_from_2 : list_of (bytes "..................") 2 (line_of move) ≡ listing (listed.At 15) (bytes "..Move r5, 0x10...")
+listed_from_2 : list_of (bytes "..................") 2 (line_of move) ≡ listing (Ok 15) (bytes "..Move r5, 0x10...")
 unfolding over numeral mnemonic immediate_text general_text line_of list_of
 listed_from_2 = refl
 

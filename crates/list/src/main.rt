@@ -6,7 +6,6 @@ ghost use Rattle.nav_list.specs.Rules.{listing};
 ghost use Rattle.list.specs.Rules.{shown_of};
 
 use error::Refusal;
-use nav_list::Listed;
 use std::io;
 use std::io::{Input, Print};
 
@@ -23,9 +22,8 @@ fn main(rt: HostRuntime) -> io::Result<()> {
 }
 
 fn print_refused(rt: &impl Print, why: Refusal) -> io::Result<()> {
-    console::say(rt, b"refused ")?;
-    console::say_number(rt, why.number() as u32)?;
-    console::say(rt, b"\n")
+    let number = why.number();
+    println!(rt; "refused {number}")
 }
 
 // With room for 25 bytes of text for each byte that the program takes.
@@ -39,15 +37,15 @@ fn print_file(rt: &impl Print, file: &[u8]) -> io::Result<()>
 fn print_listing(rt: &impl Print, file: &[u8], room: &mut [u8]) -> io::Result<()>
     requires { 25 * length file.now ≤ length room.old }
 {
-    let listed = list_file(file, room);
-    match listed {
-        Listed::At(end) => console::say_first(rt, end, room),
-        Listed::Refused(why) => print_refused(rt, why),
+    match list_file(file, room) {
+        Ok(end) => console::say_first(rt, end, room),
+        Err(why) => print_refused(rt, why),
     }
 }
 
 // The whole text, which has at most 57 bytes for each object and 10 for each byte of the file.
-fn list_file(file: &[u8], room: &mut [u8]) -> Listed
+#[tactic(auto, using(crate::proofs::Laws::shown))]
+fn list_file(file: &[u8], room: &mut [u8]) -> Result<usize, Refusal>
     requires { 25 * length file.now ≤ length room.old }
     ensures { listing result room.new ≡ shown_of file.now room.old }
 {

@@ -1,5 +1,5 @@
 -- Examples of objects as text (document 01, "Marked and run examples"). Assumes nothing.
-use Rattle.std.specs.Prelude.{◌≡◌, refl, true, List, [], ◌∷◌, ◌++◌, ℕ, ◌+◌, ◌*◌, leb, length, replicate}
+use Rattle.std.specs.Prelude.{◌≡◌, refl, true, List, [], ◌∷◌, ◌++◌, ℕ, ◌+◌, ◌*◌, leb, length, replicate, Err, Ok}
 use Prim.Native.String.{String}
 use Rattle.laws.specs.Firsts.{blocks}
 use Rattle.laws.specs.Over.{over}
@@ -8,7 +8,6 @@ use Rattle.error.specs.declared.Refusal.TheVariants.{NoRoom, NotAnEntry}
 use Rattle.text.specs.Rules.{bytes, numeral, right_in}
 use Rattle.nav_command.specs.Rules.{set_of, operand_of, command_of}
 use Rattle.nav_names.specs.Rules.{mnemonic}
-use Rattle.nav_list.specs.declared.Listed.TheVariants.{At, Refused}
 use Rattle.nav_list.specs.Rules.{immediate_text, general_text, line_of, line_at, listing, list_of}
 use Rattle.movie_object.specs.Rules.{count_of, next, place, body_of, verdict_of, commands_of, head_at}
 use Rattle.movie_object_list.specs.Rules.{count_text, heading_text, prefix_text, object_text, file_text, list_object, list_file}
@@ -41,17 +40,17 @@ unfolding opened
 file_as_text = refl
 
 -- The text goes from a place on, and all else stays.
-pub listed_from_1 : list_object two 1 (replicate 62 7) 1 ≡ listing (At 61) ((7 ∷ []) ++ bare "1" ++ (7 ∷ []))
+pub listed_from_1 : list_object two 1 (replicate 62 7) 1 ≡ listing (Ok 61) ((7 ∷ []) ++ bare "1" ++ (7 ∷ []))
 unfolding opened
 listed_from_1 = refl
 
 -- An object to list that isn't on the disc.
-pub no_such_object : list_object two 2 (replicate 60 7) 0 ≡ listing (Refused NotAnEntry) (replicate 60 7)
+pub no_such_object : list_object two 2 (replicate 60 7) 0 ≡ listing (Err NotAnEntry) (replicate 60 7)
 unfolding opened
 no_such_object = refl
 
 -- Output longer than the lent buffer alters nothing.
-pub no_room : list_file two (replicate 121 7) 0 ≡ listing (Refused NoRoom) (replicate 121 7)
+pub no_room : list_file two (replicate 121 7) 0 ≡ listing (Err NoRoom) (replicate 121 7)
 unfolding opened
 no_room = refl
 

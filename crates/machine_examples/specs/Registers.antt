@@ -1,9 +1,7 @@
 -- Fresh banks, and the player's reads and writes of a bank (document 01, "One command"). Assumes nothing.
-use Rattle.std.specs.Prelude.{◌≡◌, refl, true, false, List, [], ◌∷◌, map, ℕ, get_or, set}
+use Rattle.std.specs.Prelude.{◌≡◌, refl, true, false, List, [], ◌∷◌, map, ℕ, get_or, set, Option, Some, None, Result, Ok, Err}
+use Rattle.error.specs.declared.Refusal.{Refusal}
 use Rattle.error.specs.declared.Refusal.TheVariants.{BadBuffer, BadBudget}
-use Rattle.error.specs.declared.Verdict.TheVariants as verdict
-use Rattle.registers.specs.declared.Read.{Read}
-use Rattle.registers.specs.declared.Read.TheVariants.{Value, NoRegister, Refused}
 use Rattle.nav_command.specs.Rules.{operand_of}
 use Rattle.registers.specs.declared.Raw.{Raw}
 use Rattle.registers.specs.Laws.{one_answer}
@@ -26,7 +24,7 @@ last_status = refl
 abbrev bank : List ℕ
 bank = set fresh_status 5 7
 
-a_register : read_of 128 bank 5 ≡ Value 7
+a_register : read_of 128 bank 5 ≡ Ok (Some 7)
 unfolding opened
 a_register = refl
 
@@ -36,7 +34,7 @@ unfolding opened operand_of
 values = refl
 
 -- General registers are 4,096.
-last_general_read : read_of 4096 (set fresh_general 4095 7) 4095 ≡ Value 7
+last_general_read : read_of 4096 (set fresh_general 4095 7) 4095 ≡ Ok (Some 7)
 unfolding opened
 last_general_read = refl
 
@@ -45,7 +43,7 @@ unfolding opened
 last_general_written = refl
 
 -- A number from 128 on names no status register: nothing is read or written there.
-no_register : read_of 128 bank 128 ≡ NoRegister
+no_register : read_of 128 bank 128 ≡ Ok None
 unfolding opened
 no_register = refl
 
@@ -54,11 +52,11 @@ unfolding opened
 nothing_written = refl
 
 -- A bank of another length is refused, and stays as it was.
-other_length : read_of 4096 bank 5 ≡ Refused BadBuffer
+other_length : read_of 4096 bank 5 ≡ Err BadBuffer
 unfolding opened
 other_length = refl
 
-write_refused : bank_of 4096 bank ≡ verdict.Refused BadBuffer
+write_refused : bank_of 4096 bank ≡ Err BadBuffer
 unfolding opened
 write_refused = refl
 
@@ -67,15 +65,15 @@ unfolding opened
 kept = refl
 
 -- There are 128 status registers: not one more.
-banks_of_128_and_129 : bank_of 128 bank ∷ bank_of 128 (0 ∷ bank) ∷ [] ≡ verdict.Fine ∷ verdict.Refused BadBuffer ∷ []
+banks_of_128_and_129 : bank_of 128 bank ∷ bank_of 128 (0 ∷ bank) ∷ [] ≡ Ok tt ∷ Err BadBuffer ∷ []
 unfolding opened
 banks_of_128_and_129 = refl
 
 -- A number is given exactly when its test fails: here that of a budget.
-budget_failed : refuses BadBudget false ≡ verdict.Refused BadBudget
+budget_failed : refuses BadBudget false ≡ Err BadBudget
 budget_failed = refl
 
-budget_passed : refuses BadBudget true ≡ verdict.Fine
+budget_passed : refuses BadBudget true ≡ Ok tt
 budget_passed = refl
 
 -- A write by the player reaches that register alone.
@@ -89,12 +87,12 @@ unfolding opened
 read_only_written = refl
 
 -- Any two outcomes allowed are equal: of a read, and of a write.
-abbrev other_read : Read
-other_read = Value 7
+abbrev other_read : Result (Option ℕ) Refusal
+other_read = Ok (Some 7)
 
-one_read : Value 7 ≡ other_read
+one_read : (Ok (Some 7)) ≡ other_read
 unfolding opened
-one_read = one_answer.reads 128 bank 5 (Value 7) other_read refl refl
+one_read = one_answer.reads 128 bank 5 (Ok (Some 7)) other_read refl refl
 
 abbrev other_bank : List ℕ
 other_bank = set bank 6 9

@@ -7,23 +7,20 @@ use super::hand;
 use error::Refusal;
 
 // The thirteen numbers of twelve bytes.
+#[tactic(auto, using(crate::proofs::Laws::decodes), unfolding(command_calls::specs::Rules::decode_call))]
 #[unsafe(no_mangle)]
 pub extern "C" fn mescjadro_decode(command: &[u8], res: &mut [u32]) -> u32
     ensures { handed result res.new ≡ decode_call command.now res.old }
 {
-    if res.len() != 13 {
+    if res.len() != 13 || command.len() != 12 {
         return lent::refused(Refusal::BadBuffer);
     }
-    if command.len() != 12 {
-        return lent::refused(Refusal::BadBuffer);
-    }
-    let bytes = vm::fetch(command, 0);
-    let found = nav_numbers::numbers_of(&bytes);
-    lent::put(res, &found);
+    lent::put(res, &nav_numbers::numbers_of(&vm::fetch(command, 0)));
     0
 }
 
 // The twelve bytes of thirteen numbers.
+#[tactic(auto, unfolding(command_calls::specs::Rules::encode_call))]
 #[unsafe(no_mangle)]
 pub extern "C" fn mescjadro_encode(command: &[u32], out: &mut [u8]) -> u32
     ensures { handed result out.new ≡ encode_call command.now out.old }
@@ -32,13 +29,14 @@ pub extern "C" fn mescjadro_encode(command: &[u32], out: &mut [u8]) -> u32
         return lent::refused(Refusal::BadBuffer);
     }
     if nav_numbers::is_command(command) {
-        let found = nav_encode::encode(nav_numbers::command_named(command), out);
-        return lent::verdict_number(found);
+        lent::verdict_number(nav_encode::encode(nav_numbers::command_named(command), out))
+    } else {
+        lent::refused(Refusal::NotEncodable)
     }
-    lent::refused(Refusal::NotEncodable)
 }
 
 // The text of twelve bytes.
+#[tactic(auto, using(crate::proofs::Laws::line_whole), unfolding(command_calls::specs::Rules::list_command_call))]
 #[unsafe(no_mangle)]
 pub extern "C" fn mescjadro_list_command(command: &[u8], out: &mut [u8], count: &mut usize) -> u32
     ensures { measured out.new (size result count.new)
@@ -47,6 +45,5 @@ pub extern "C" fn mescjadro_list_command(command: &[u8], out: &mut [u8], count: 
     if command.len() != 12 {
         return lent::refused(Refusal::BadBuffer);
     }
-    let listed = nav_list::list_at(command, 0, out, 0);
-    hand::hand_text(listed, count)
+    hand::hand_length(nav_list::list_at(command, 0, out, 0), count)
 }

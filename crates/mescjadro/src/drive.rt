@@ -8,27 +8,25 @@ ghost use Rattle.drive_calls.specs.Rules.{ran_by, runner_call, checked_by, check
 
 use disc_check::DiscCheck;
 use error::Refusal;
-use mobj_runner::RunAnswer;
+use mobj_runner::RunEnd;
 
 // An outcome and the session that it leaves, or a refusal.
-fn hand_run(answer: RunAnswer, session: &mut [u32], outcome: &mut [u32]) -> u32
+fn hand_run(answer: Result<RunEnd, Refusal>, session: &mut [u32], outcome: &mut [u32]) -> u32
     requires { (length session.old ≡ 6) × (length outcome.old ≡ 6) }
     ensures { ended result session.new outcome.new ≡ ran_by answer session.old outcome.old }
 {
     match answer {
-        RunAnswer::Refused(why) => lent::refused(why),
-        RunAnswer::Ran(end) => {
-            let how = end.outcome;
-            let s = end.session;
-            let found = numbers::run_numbers(how);
-            numbers::put_session(s, session);
-            lent::put(outcome, &found);
+        Err(why) => lent::refused(why),
+        Ok(end) => {
+            numbers::put_session(end.session, session);
+            lent::put(outcome, &numbers::run_numbers(end.outcome));
             0
         }
     }
 }
 
 // The runner starts an object.
+#[tactic(auto, unfolding(drive_calls::specs::Rules::runner_call, lent::specs::Rules::lengths_fit))]
 #[unsafe(no_mangle)]
 pub extern "C" fn mescjadro_runner_run(
     gpr: &mut [u32],
@@ -49,12 +47,14 @@ pub extern "C" fn mescjadro_runner_run(
         let s = numbers::session_of(session);
         let b = numbers::budgets_of(budgets);
         let answer = mobj_runner::run(gpr, psr, frames, titles, file, s, object, b);
-        return hand_run(answer, session, outcome);
+        hand_run(answer, session, outcome)
+    } else {
+        lent::refused(Refusal::BadBuffer)
     }
-    lent::refused(Refusal::BadBuffer)
 }
 
 // The runner goes on from where the session stands.
+#[tactic(auto, unfolding(drive_calls::specs::Rules::runner_call, lent::specs::Rules::lengths_fit))]
 #[unsafe(no_mangle)]
 pub extern "C" fn mescjadro_runner_resume(
     gpr: &mut [u32],
@@ -74,25 +74,19 @@ pub extern "C" fn mescjadro_runner_resume(
         let s = numbers::session_of(session);
         let b = numbers::budgets_of(budgets);
         let answer = mobj_runner::resume(gpr, psr, frames, titles, file, s, b);
-        return hand_run(answer, session, outcome);
+        hand_run(answer, session, outcome)
+    } else {
+        lent::refused(Refusal::BadBuffer)
     }
-    lent::refused(Refusal::BadBuffer)
 }
 
-fn hand_check(found: DiscCheck, res: &mut [u32]) -> u32
+fn hand_check(found: Result<DiscCheck, Refusal>, res: &mut [u32]) -> u32
     requires { length res.old ≡ 3 }
     ensures { handed result res.new ≡ checked_by found res.old }
 {
     match found {
-        DiscCheck::Refused(why) => lent::refused(why),
-        DiscCheck::Passed => {
-            lent::put(res, &numbers::check_numbers(found));
-            0
-        }
-        DiscCheck::Offends {
-            object: _,
-            command: _,
-        } => {
+        Err(why) => lent::refused(why),
+        Ok(_) => {
             lent::put(res, &numbers::check_numbers(found));
             0
         }
@@ -100,6 +94,7 @@ fn hand_check(found: DiscCheck, res: &mut [u32]) -> u32
 }
 
 // Whether a command on the disc can ask for what the disc lacks.
+#[tactic(auto, unfolding(drive_calls::specs::Rules::check_call))]
 #[unsafe(no_mangle)]
 pub extern "C" fn mescjadro_disc_check(index: &[u8], file: &[u8], res: &mut [u32]) -> u32
     ensures { handed result res.new ≡ check_call index.now file.now res.old }

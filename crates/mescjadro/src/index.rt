@@ -1,5 +1,5 @@
 // index.bdmv: read, resolved, written.
-ghost use Rattle.std.specs.Prelude.{◌≡◌, length};
+ghost use Rattle.std.specs.Prelude.{◌≡◌};
 ghost use Rattle.index_bdmv_write.specs.Rules.{entries};
 ghost use Rattle.lent.specs.Rules.{handed, size, measured};
 ghost use Rattle.index_calls.specs.Rules.{index_numbers, index_call, entry_numbers, type_numbers, entry_call, lead_numbers, resolve_call, app_of, write_index_call};
@@ -7,22 +7,24 @@ ghost use Rattle.index_calls.specs.Rules.{index_numbers, index_call, entry_numbe
 use super::hand;
 use common::byte_at;
 use error::Refusal;
-use index_bdmv::{AppInfoBdmv, IndexBdmv, IndexEntry, IndexObjectType, Lead, Parsed, Resolved};
+use index_bdmv::{AppInfoBdmv, IndexBdmv, IndexObjectType};
+use index_bdmv_write::Entries;
 
 fn index_numbers(version: u32, app: AppInfoBdmv, titles: u16) -> [u32; 6]
     ensures { result ≡ index_numbers version app titles }
 {
     [
         version,
-        app.initial_output_mode_preference as u32,
-        app.content_exist_flag as u32,
-        app.video_format as u32,
-        app.frame_rate as u32,
-        titles as u32,
+        u32::from(app.initial_output_mode_preference),
+        u32::from(app.content_exist_flag),
+        u32::from(app.video_format),
+        u32::from(app.frame_rate),
+        u32::from(titles),
     ]
 }
 
 // What a file holds.
+#[tactic(auto, unfolding(index_calls::specs::Rules::index_call))]
 #[unsafe(no_mangle)]
 pub extern "C" fn mescjadro_index(index: &[u8], res: &mut [u32]) -> u32
     ensures { handed result res.new ≡ index_call index.now res.old }
@@ -30,22 +32,16 @@ pub extern "C" fn mescjadro_index(index: &[u8], res: &mut [u32]) -> u32
     if res.len() != 6 {
         return lent::refused(Refusal::BadBuffer);
     }
-    let parsed = IndexBdmv::parse(index);
-    match parsed {
-        Parsed::Refused(why) => lent::refused(why),
-        Parsed::Read(read) => {
-            let app = read.app_info;
-            let found = index_numbers(read.version, app, read.titles);
-            lent::put(res, &found);
+    match IndexBdmv::parse(index) {
+        Err(why) => lent::refused(why),
+        Ok(read) => {
+            lent::put(
+                res,
+                &index_numbers(read.version, read.app_info, read.titles),
+            );
             0
         }
     }
-}
-
-fn wide(byte: u8) -> u32
-    ensures { result ≡ byte }
-{
-    byte as u32
 }
 
 fn entry_numbers(kind: u32, playback: u8, object: u16, name: &[u8]) -> [u32; 8]
@@ -53,17 +49,18 @@ fn entry_numbers(kind: u32, playback: u8, object: u16, name: &[u8]) -> [u32; 8]
 {
     [
         kind,
-        playback as u32,
-        object as u32,
-        wide(byte_at(name, 0)),
-        wide(byte_at(name, 1)),
-        wide(byte_at(name, 2)),
-        wide(byte_at(name, 3)),
-        wide(byte_at(name, 4)),
+        u32::from(playback),
+        u32::from(object),
+        u32::from(byte_at(name, 0)),
+        u32::from(byte_at(name, 1)),
+        u32::from(byte_at(name, 2)),
+        u32::from(byte_at(name, 3)),
+        u32::from(byte_at(name, 4)),
     ]
 }
 
 // What stands at an entry.
+#[tactic(auto, unfolding(index_calls::specs::Rules::entry_call))]
 #[unsafe(no_mangle)]
 pub extern "C" fn mescjadro_entry(index: &[u8], entry: u32, res: &mut [u32]) -> u32
     ensures { handed result res.new ≡ entry_call index.now entry res.old }
@@ -72,50 +69,42 @@ pub extern "C" fn mescjadro_entry(index: &[u8], entry: u32, res: &mut [u32]) -> 
         return lent::refused(Refusal::BadBuffer);
     }
     let name = IndexBdmv::bdjo_file_name(index, entry);
-    let asked = IndexBdmv::entry(index, entry);
-    match asked {
-        IndexEntry::Refused(why) => lent::refused(why),
-        IndexEntry::Nothing => {
-            let found = entry_numbers(0, 0, 0, name);
-            lent::put(res, &found);
+    match IndexBdmv::entry(index, entry) {
+        Err(why) => lent::refused(why),
+        Ok(None) => {
+            lent::put(res, &entry_numbers(0, 0, 0, name));
             0
         }
-        IndexEntry::Object(object) => {
-            put_entry(object, name, res);
+        Ok(Some(object)) => {
+            lent::put(res, &type_numbers(object, name));
             0
         }
     }
 }
 
-fn put_entry(object: IndexObjectType, name: &[u8], res: &mut [u32])
-    requires { length res.old ≡ 8 }
-    ensures { res.new ≡ type_numbers object name.now }
+fn type_numbers(object: IndexObjectType, name: &[u8]) -> [u32; 8]
+    ensures { result ≡ type_numbers object name.now }
 {
     match object {
         IndexObjectType::Hdmv {
             playback_type,
             movie_object_id_ref,
-        } => {
-            let found = entry_numbers(1, playback_type, movie_object_id_ref, name);
-            lent::put(res, &found);
-        }
-        IndexObjectType::BdJ { playback_type } => {
-            let found = entry_numbers(2, playback_type, 0, name);
-            lent::put(res, &found);
-        }
+        } => entry_numbers(1, playback_type, movie_object_id_ref, name),
+        IndexObjectType::BdJ { playback_type } => entry_numbers(2, playback_type, 0, name),
     }
 }
 
-fn lead_numbers(led: Lead) -> [u32; 2]
+fn lead_numbers(led: Option<u16>) -> [u32; 2]
     ensures { result ≡ lead_numbers led }
 {
     match led {
-        Lead::Object(object) => [1, object as u32],
-        Lead::Nothing => [0, 0],
+        Some(object) => [1, u32::from(object)],
+        None => [0, 0],
     }
 }
 
 // Where an entry leads.
+#[tactic(auto, unfolding(index_calls::specs::Rules::resolve_call))]
 #[unsafe(no_mangle)]
 pub extern "C" fn mescjadro_resolve(index: &[u8], entry: u32, res: &mut [u32]) -> u32
     ensures { handed result res.new ≡ resolve_call index.now entry res.old }
@@ -123,12 +112,10 @@ pub extern "C" fn mescjadro_resolve(index: &[u8], entry: u32, res: &mut [u32]) -
     if res.len() != 2 {
         return lent::refused(Refusal::BadBuffer);
     }
-    let asked = IndexBdmv::resolve_movie_object(index, entry);
-    match asked {
-        Resolved::Refused(why) => lent::refused(why),
-        Resolved::Leads(led) => {
-            let found = lead_numbers(led);
-            lent::put(res, &found);
+    match IndexBdmv::resolve_movie_object(index, entry) {
+        Err(why) => lent::refused(why),
+        Ok(led) => {
+            lent::put(res, &lead_numbers(led));
             0
         }
     }
@@ -146,6 +133,7 @@ fn app_of(app: &[u8]) -> AppInfoBdmv
 }
 
 // The file of a record.
+#[tactic(auto, unfolding(index_calls::specs::Rules::write_index_call))]
 #[unsafe(no_mangle)]
 pub extern "C" fn mescjadro_write_index(
     version: u32,
@@ -163,14 +151,14 @@ pub extern "C" fn mescjadro_write_index(
     if app.len() != 4 {
         return lent::refused(Refusal::BadBuffer);
     }
-    let written = index_bdmv_write::write(
-        version,
-        app_of(app),
+    let given = Entries {
         kinds,
         playbacks,
         objects,
         names,
-        out,
-    );
-    hand::hand_file(written, count)
+    };
+    hand::hand_length(
+        index_bdmv_write::write(version, app_of(app), &given, out),
+        count,
+    )
 }

@@ -1,13 +1,14 @@
 // MovieObject.bdmv: read, listed, written.
-ghost use Rattle.std.specs.Prelude.{◌≡◌, ◌≤◌, length};
+ghost use Rattle.std.specs.Prelude.{◌≡◌, ◌≤◌};
 ghost use Rattle.lent.specs.Rules.{handed, size, measured};
 ghost use Rattle.object_calls.specs.Rules.{objects_call, object_numbers, object_call, list_object_call, list_call, write_objects_call};
 
 use super::hand;
 use error::Refusal;
-use movie_object::{MovieObject, MovieObjects, Object, Parsed};
+use movie_object::{MovieObject, MovieObjects};
 
 // What a file holds.
+#[tactic(auto, unfolding(object_calls::specs::Rules::objects_call))]
 #[unsafe(no_mangle)]
 pub extern "C" fn mescjadro_objects(file: &[u8], res: &mut [u32]) -> u32
     ensures { handed result res.new ≡ objects_call file.now res.old }
@@ -15,18 +16,17 @@ pub extern "C" fn mescjadro_objects(file: &[u8], res: &mut [u32]) -> u32
     if res.len() != 2 {
         return lent::refused(Refusal::BadBuffer);
     }
-    let parsed = MovieObjects::parse(file);
-    match parsed {
-        Parsed::Refused(why) => lent::refused(why),
-        Parsed::Read(objects) => {
-            let found = [objects.version, objects.count as u32];
-            lent::put(res, &found);
+    match MovieObjects::parse(file) {
+        Err(why) => lent::refused(why),
+        Ok(objects) => {
+            lent::put(res, &[objects.version, u32::from(objects.count)]);
             0
         }
     }
 }
 
 // What an object is, and where its commands start.
+#[tactic(auto, using(crate::proofs::Laws::found_tells), unfolding(object_calls::specs::Rules::object_call))]
 #[unsafe(no_mangle)]
 pub extern "C" fn mescjadro_object(file: &[u8], object: u32, res: &mut [u32]) -> u32
     ensures { handed result res.new ≡ object_call file.now object res.old }
@@ -34,32 +34,31 @@ pub extern "C" fn mescjadro_object(file: &[u8], object: u32, res: &mut [u32]) ->
     if res.len() != 5 {
         return lent::refused(Refusal::BadBuffer);
     }
-    let asked = MovieObjects::object(file, object);
-    match asked {
-        Object::Refused(why) => lent::refused(why),
-        Object::Found(head) => {
+    match MovieObjects::object(file, object) {
+        Err(why) => lent::refused(why),
+        Ok(head) => {
             let at = movie_object::place_of(file, object);
-            put_object(head, at, res);
+            lent::put(res, &object_numbers(head, at));
             0
         }
     }
 }
 
-fn put_object(head: MovieObject, at: usize, res: &mut [u32])
-    requires { (length res.old ≡ 5) × (at ≤ 16777216) }
-    ensures { res.new ≡ object_numbers head at }
+fn object_numbers(head: MovieObject, at: usize) -> [u32; 5]
+    requires { at ≤ 16777216 }
+    ensures { result ≡ object_numbers head at }
 {
-    let found = [
-        head.resume_intention_flag as u32,
-        head.menu_call_mask as u32,
-        head.title_search_mask as u32,
-        head.commands as u32,
-        (at + 4) as u32,
-    ];
-    lent::put(res, &found);
+    [
+        u32::from(head.resume_intention_flag),
+        u32::from(head.menu_call_mask),
+        u32::from(head.title_search_mask),
+        u32::from(head.commands),
+        at as u32 + 4,
+    ]
 }
 
 // The text of an object.
+#[tactic(auto, unfolding(object_calls::specs::Rules::list_object_call))]
 #[unsafe(no_mangle)]
 pub extern "C" fn mescjadro_list_object(
     file: &[u8],
@@ -70,21 +69,21 @@ pub extern "C" fn mescjadro_list_object(
     ensures { measured out.new (size result count.new)
         ≡ list_object_call file.now object out.old count.old }
 {
-    let listed = movie_object_list::list(file, object, out, 0);
-    hand::hand_text(listed, count)
+    hand::hand_length(movie_object_list::list(file, object, out, 0), count)
 }
 
 // The text of the whole file.
+#[tactic(auto, unfolding(object_calls::specs::Rules::list_call))]
 #[unsafe(no_mangle)]
 pub extern "C" fn mescjadro_list(file: &[u8], out: &mut [u8], count: &mut usize) -> u32
     ensures { measured out.new (size result count.new)
         ≡ list_call file.now out.old count.old }
 {
-    let listed = movie_object_list::list_all(file, out, 0);
-    hand::hand_text(listed, count)
+    hand::hand_length(movie_object_list::list_all(file, out, 0), count)
 }
 
 // The file of a record.
+#[tactic(auto, unfolding(object_calls::specs::Rules::write_objects_call))]
 #[unsafe(no_mangle)]
 pub extern "C" fn mescjadro_write_objects(
     version: u32,
@@ -97,6 +96,8 @@ pub extern "C" fn mescjadro_write_objects(
     ensures { measured out.new (size result count.new)
         ≡ write_objects_call version flags.now counts.now commands.now out.old count.old }
 {
-    let written = movie_object_write::write(version, flags, counts, commands, out);
-    hand::hand_file(written, count)
+    hand::hand_length(
+        movie_object_write::write(version, flags, counts, commands, out),
+        count,
+    )
 }

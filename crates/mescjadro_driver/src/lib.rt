@@ -9,27 +9,25 @@ ghost use Rattle.lent.specs.Rules.{ended};
 ghost use Rattle.drive_calls.specs.Rules.{drove_by, driver_call};
 
 use error::Refusal;
-use nav_driver::DriveAnswer;
+use nav_driver::DriveEnd;
 
 // An outcome and the session that it leaves, or a refusal.
-fn hand_drive(answer: DriveAnswer, session: &mut [u32], outcome: &mut [u32]) -> u32
+fn hand_drive(answer: Result<DriveEnd, Refusal>, session: &mut [u32], outcome: &mut [u32]) -> u32
     requires { (length session.old ≡ 6) × (length outcome.old ≡ 6) }
     ensures { ended result session.new outcome.new ≡ drove_by answer session.old outcome.old }
 {
     match answer {
-        DriveAnswer::Refused(why) => lent::refused(why),
-        DriveAnswer::Drove(end) => {
-            let how = end.outcome;
-            let s = end.session;
-            let found = numbers::drive_numbers(how);
-            numbers::put_session(s, session);
-            lent::put(outcome, &found);
+        Err(why) => lent::refused(why),
+        Ok(end) => {
+            numbers::put_session(end.session, session);
+            lent::put(outcome, &numbers::drive_numbers(end.outcome));
             0
         }
     }
 }
 
 // The driver starts an entry.
+#[tactic(auto, unfolding(drive_calls::specs::Rules::driver_call, lent::specs::Rules::lengths_fit))]
 #[unsafe(no_mangle)]
 pub extern "C" fn mescjadro_driver_run(
     gpr: &mut [u32],
@@ -51,12 +49,14 @@ pub extern "C" fn mescjadro_driver_run(
         let s = numbers::session_of(session);
         let b = numbers::budgets_of(budgets);
         let answer = nav_driver::run(gpr, psr, frames, titles, index, file, s, entry, b);
-        return hand_drive(answer, session, outcome);
+        hand_drive(answer, session, outcome)
+    } else {
+        lent::refused(Refusal::BadBuffer)
     }
-    lent::refused(Refusal::BadBuffer)
 }
 
 // The driver goes on after the player has done what was asked.
+#[tactic(auto, unfolding(drive_calls::specs::Rules::driver_call, lent::specs::Rules::lengths_fit))]
 #[unsafe(no_mangle)]
 pub extern "C" fn mescjadro_driver_resume(
     gpr: &mut [u32],
@@ -77,7 +77,8 @@ pub extern "C" fn mescjadro_driver_resume(
         let s = numbers::session_of(session);
         let b = numbers::budgets_of(budgets);
         let answer = nav_driver::resume(gpr, psr, frames, titles, index, file, s, b);
-        return hand_drive(answer, session, outcome);
+        hand_drive(answer, session, outcome)
+    } else {
+        lent::refused(Refusal::BadBuffer)
     }
-    lent::refused(Refusal::BadBuffer)
 }

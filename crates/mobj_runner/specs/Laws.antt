@@ -1,11 +1,8 @@
 -- How a drive of objects unrolls, and what its tests tell. Assumes nothing.
-use Rattle.std.specs.Prelude.{◌≡◌, List, eqb, get_or}
-use Rattle.std.proofs.Common.{sym, ap, ◌∙◌, arith, sub-one}
+use Rattle.std.specs.Prelude.{◌≡◌, ◌≤◌, Bool, List, eqb, get_or, length, Ok}
+use Rattle.std.proofs.Common.{sym, ap, arith, sub-one}
 use Prim.Native.Nat.{ℕ, zero, suc, ◌-◌, ◌<◌}
 use Rattle.common.specs.Rules.{be2}
-use Rattle.error.specs.declared.Refusal.{Refusal}
-use Rattle.error.specs.declared.Verdict.{Verdict}
-use Rattle.error.specs.declared.Verdict.TheVariants.{Refused}
 use Rattle.laws.specs.Cases.{either_way}
 use Rattle.movie_object.specs.Rules.{count_of, commands_of}
 use Rattle.session.specs.declared.Session.{Session}
@@ -15,8 +12,11 @@ use Rattle.mobj_runner.specs.declared.Follow.{Follow}
 use Rattle.mobj_runner.specs.declared.Follow.TheVariants.{Return, Jump, Call, Ask}
 use Rattle.mobj_runner.specs.declared.Turn.{Turn}
 use Rattle.mobj_runner.specs.declared.Turn.TheVariants.{Go, Stop}
-use Rattle.mobj_runner.specs.Rules.{World, world, follows, returned, jumped, called, acted, turn_of, drive_of, ended}
-use Rattle.mobj_runner.specs.Pieces.{Settled}
+use Rattle.mobj_runner.specs.Rules.{World, world, follows, returned, jumped, called, acted, turn_of, drive_of, ended, verdict_for}
+use Rattle.error.specs.Laws.{both_fine}
+use Rattle.session.specs.declared.Budgets.{Budgets}
+use Rattle.session.specs.Rules.{buffers_verdict}
+use Rattle.session.specs.Laws.{buffers_room}
 
 stops : {s t : Session} {o : RunOutcome} → Stop s o ≡ Go t → ⊥
 stops h = let z : ◌≡◌ {A = ℕ} 0 1 = cc in omega arith
@@ -52,18 +52,10 @@ module _ (file : List ℕ) (steps : ℕ) where
   drive_go zero w s r f e = absurd (turn_spent file steps w s (ap (λ (x : World Turn). x.it) (sym e)))
   drive_go (suc left) w s r f e = rw (← e, sub-one)
 
--- a call that is refused settles nothing else
-pub settled_refused : {file places gpr psr frames : List ℕ} {answer expected : Verdict} {r : Refusal} → answer ≡ Refused r
-    → expected ≡ Refused r → Settled file places gpr psr frames answer expected
-settled_refused p q =
-    record {
-      judged = p ∙ sym q;
-      fine = λ h. let z : ◌≡◌ {A = ℕ} 0 1 = cc in absurd (omega arith);
-      placed = λ h. let z : ◌≡◌ {A = ℕ} 0 1 = cc in absurd (omega arith);
-      general = λ h. let z : ◌≡◌ {A = ℕ} 0 1 = cc in absurd (omega arith);
-      status = λ h. let z : ◌≡◌ {A = ℕ} 0 1 = cc in absurd (omega arith);
-      room = λ h. let z : ◌≡◌ {A = ℕ} 0 1 = cc in absurd (omega arith);
-    }
+-- what a call that is not refused has tested
+pub opened_room : (file titles : List ℕ) (b : Budgets) (pending : Bool) (w : World Session) → verdict_for file b titles pending w ≡ Ok tt → length w.frames ≤ 131073
+unfolding verdict_for
+opened_room file titles b pending w e = (buffers_room _ _ _ _ (both_fine (buffers_verdict w.regs.general w.regs.status w.frames titles) _ e).0).0
 
 -- the number of objects is one of two bytes
 pub count_small : (file : List ℕ) → ((i : ℕ) → get_or file i 0 < 256) → count_of file < 65536

@@ -1,8 +1,6 @@
 -- Runs of objects: a turn, a drive of turns, and the runner's calls (document 01, "Objects and titles"). Assumes nothing.
-use Rattle.std.specs.Prelude.{Bool, true, cond, List, ℕ, zero, suc, ◌+◌, ◌-◌, eqb, leb}
-use Rattle.error.specs.Rules.{first_of}
-use Rattle.error.specs.declared.Verdict.{Verdict}
-use Rattle.error.specs.declared.Verdict.TheVariants as verdict
+use Rattle.std.specs.Prelude.{Bool, true, cond, List, ℕ, zero, suc, ◌+◌, ◌-◌, eqb, leb, Err, Ok, Result}
+use Rattle.error.specs.Rules.{first_of, Verdict}
 use Rattle.movie_object.specs.Rules.{count_of, commands_of, verdict_of}
 use Rattle.session.specs.declared.Session.{Session}
 use Rattle.session.specs.declared.Budgets.{Budgets}
@@ -23,8 +21,7 @@ use Rattle.mobj_runner.specs.declared.Turn.TheVariants.{Go, Stop}
 use Rattle.mobj_runner.specs.declared.RunEnd.{RunEnd}
 use Rattle.mobj_runner.specs.declared.Start.{Start}
 use Rattle.mobj_runner.specs.declared.Start.TheVariants.{Object, Here}
-use Rattle.mobj_runner.specs.declared.RunAnswer.{RunAnswer}
-use Rattle.mobj_runner.specs.declared.RunAnswer.TheVariants as A
+use Rattle.error.specs.declared.Refusal.{Refusal}
 
 -- a value, and what the lent registers and object frames hold
 pub record World (A : Type 0) : Type 0 where
@@ -151,9 +148,9 @@ verdict_for file b titles pending w =
     (first_of (verdict_of file) (session_verdict w.frames titles (count_of file) w.it pending)))
 
 -- A refusal gives its number and leaves everything as it was.
-abbrev pub answered : Verdict → World RunEnd → World Session → World RunAnswer
-answered verdict.Fine d w = world (A.Ran d.it) d.regs d.frames
-answered (verdict.Refused r) d w = world (A.Refused r) w.regs w.frames
+abbrev pub answered : Verdict → World RunEnd → World Session → World (Result RunEnd Refusal)
+answered (Ok u) d w = world (Ok d.it) d.regs d.frames
+answered (Err r) d w = world (Err r) w.regs w.frames
 
-unfoldable pub answer_of : List ℕ → Budgets → List ℕ → Start → World Session → World RunAnswer
+unfoldable pub answer_of : List ℕ → Budgets → List ℕ → Start → World Session → World (Result RunEnd Refusal)
 answer_of file b titles start w = answered (verdict_for file b titles (waits w.it start) w) (begun file b w start) w

@@ -2,18 +2,20 @@
 #![tactic(auto)]
 
 ghost use Rattle.std.specs.Prelude.{◌≡◌, ◌≤◌, ◌<◌, length};
-ghost use Rattle.error.specs.declared.Verdict.TheVariants.{Fine};
+ghost use Rattle.error.specs.Rules.{given};
+ghost use Rattle.registers.specs.Lent.{held, Same};
 ghost use Rattle.movie_object.specs.Rules.{count_of};
 ghost use Rattle.vm.specs.Rules.{banks};
 ghost use Rattle.mobj_runner.specs.Rules.{follows, asked, framed, world, returned, jumped, called, acted, turn_of, drive_of, begun, waits, verdict_for, answer_of};
-ghost use Rattle.mobj_runner.specs.Pieces.{Ready, Settled};
 
-use error::{Refusal, Verdict};
+use error::Refusal;
+use movie_object::ObjectTable;
+use registers::Banks;
 use session::{Budgets, ObjectFrame, Session};
 use vm::{End, NavRequest};
 
 // Why a run or a resume of the runner returned.
-#[derive(Drop)]
+#[derive(Clone, Copy)]
 pub enum RunOutcome {
     Finished,
     Request(NavRequest),
@@ -23,7 +25,7 @@ pub enum RunOutcome {
 }
 
 // What the end of an object's commands asks for.
-#[derive(Drop)]
+#[derive(Clone, Copy)]
 pub enum Follow {
     Return,
     Jump(u32),
@@ -32,13 +34,13 @@ pub enum Follow {
 }
 
 // How a turn ends: with a session to go on from, or with an outcome. The session stands at the same place in both.
-#[derive(Drop)]
+#[derive(Clone, Copy)]
 pub enum Turn {
     Go(Session),
     Stop(Session, RunOutcome),
 }
 
-#[derive(Drop)]
+#[derive(Clone, Copy)]
 pub struct RunEnd {
     pub outcome: RunOutcome,
     pub session: Session,
@@ -51,12 +53,6 @@ pub enum Start {
     Here,
 }
 
-#[derive(Drop)]
-pub enum RunAnswer {
-    Refused(Refusal),
-    Ran(RunEnd),
-}
-
 // The requests that the runner follows itself, and those that it hands on.
 fn asked_by(request: NavRequest) -> Follow
     ensures { result ≡ asked request }
@@ -65,19 +61,7 @@ fn asked_by(request: NavRequest) -> Follow
         NavRequest::JumpObject(object) => Follow::Jump(object),
         NavRequest::CallObject(object) => Follow::Call(object),
         NavRequest::Resume => Follow::Return,
-        NavRequest::JumpTitle(_) => Follow::Ask(request),
-        NavRequest::CallTitle(_) => Follow::Ask(request),
-        NavRequest::PlayPlayList(_) => Follow::Ask(request),
-        NavRequest::PlayPlayListAtPlayItem(_, _) => Follow::Ask(request),
-        NavRequest::PlayPlayListAtMark(_, _) => Follow::Ask(request),
-        NavRequest::TerminatePlayList => Follow::Ask(request),
-        NavRequest::LinkPlayItem(_) => Follow::Ask(request),
-        NavRequest::LinkMark(_) => Follow::Ask(request),
-        NavRequest::SetSystem {
-            op: _,
-            operand1: _,
-            operand2: _,
-        } => { Follow::Ask(request) }
+        _ => Follow::Ask(request),
     }
 }
 
@@ -86,46 +70,46 @@ fn what_follows(end: End) -> Follow
     ensures { result ≡ follows end }
 {
     match end {
-        End::Halted => Follow::Return,
-        End::Spent => Follow::Return,
+        End::Halted | End::Spent => Follow::Return,
         End::Branch(request) => asked_by(request),
     }
 }
 
 // Pops an object frame, or finishes.
+#[tactic(auto, unfolding(crate::specs::Rules::returned))]
 fn leave_object(frames: &[u32], s: Session, left: u32) -> Turn
     ensures { result ≡ returned frames.now s left }
 {
-    let depth = s.odepth;
-    if depth == 0 {
+    if s.odepth == 0 {
         return Turn::Stop(s, RunOutcome::Finished);
     }
-    let mut t = s;
-    t.odepth = depth - 1;
+    let odepth = s.odepth - 1;
     if left == 0 {
-        return Turn::Stop(t, RunOutcome::BudgetExhausted);
+        return Turn::Stop(Session { odepth, ..s }, RunOutcome::BudgetExhausted);
     }
-    let frame = ObjectFrame::read(frames, depth - 1);
-    t.object = frame.object;
-    t.pc = frame.pc;
-    Turn::Go(t)
+    let ObjectFrame { object, pc } = ObjectFrame::read(frames, odepth);
+    Turn::Go(Session {
+        object,
+        pc,
+        odepth,
+        ..s
+    })
 }
 
+#[tactic(auto, unfolding(crate::specs::Rules::jumped))]
 fn jump(count: u32, s: Session, object: u32, left: u32) -> Turn
     ensures { result ≡ jumped count s object left }
 {
     if left == 0 {
-        return Turn::Stop(s, RunOutcome::BudgetExhausted);
+        Turn::Stop(s, RunOutcome::BudgetExhausted)
+    } else if count <= object {
+        Turn::Stop(s, RunOutcome::BadObject(object))
+    } else {
+        Turn::Go(Session { object, pc: 0, ..s })
     }
-    if count <= object {
-        return Turn::Stop(s, RunOutcome::BadObject(object));
-    }
-    let mut t = s;
-    t.object = object;
-    t.pc = 0;
-    Turn::Go(t)
 }
 
+#[tactic(auto, unfolding(crate::specs::Rules::called))]
 fn call(frames: &mut [u32], count: u32, s: Session, object: u32, left: u32) -> Turn
     requires { length frames.old ≤ 131073 }
     ensures { framed result frames.new ≡ called frames.old count s object left }
@@ -136,20 +120,20 @@ fn call(frames: &mut [u32], count: u32, s: Session, object: u32, left: u32) -> T
     if count <= object {
         return Turn::Stop(s, RunOutcome::BadObject(object));
     }
-    let depth = s.odepth;
-    if frames.len() / 2 <= depth as usize {
+    if frames.len() / 2 <= s.odepth as usize {
         return Turn::Stop(s, RunOutcome::ObjectStackFull);
     }
     let frame = ObjectFrame {
         object: s.object,
         pc: s.pc,
     };
-    frame.write(frames, depth);
-    let mut t = s;
-    t.object = object;
-    t.pc = 0;
-    t.odepth = depth + 1;
-    Turn::Go(t)
+    frame.write(frames, s.odepth);
+    Turn::Go(Session {
+        object,
+        pc: 0,
+        odepth: s.odepth + 1,
+        ..s
+    })
 }
 
 fn act(frames: &mut [u32], count: u32, s: Session, next: Follow, left: u32) -> Turn
@@ -166,55 +150,49 @@ fn act(frames: &mut [u32], count: u32, s: Session, next: Follow, left: u32) -> T
 
 // One turn: the current object's commands, and what follows their end.
 fn one_turn(
-    gpr: &mut [u32],
-    psr: &mut [u32],
+    banks: &mut Banks,
     frames: &mut [u32],
-    classes: &[u8],
-    file: &[u8],
-    places: &[u32],
+    objects: &ObjectTable,
     s: Session,
     steps: u32,
     left: u32,
 ) -> Turn
-    requires { Ready classes.now file.now places.now gpr.old psr.old frames.old }
-    ensures { world result (banks gpr.new psr.new) frames.new
-        ≡ turn_of file.now steps left (world s (banks gpr.old psr.old) frames.old) }
+    requires { length frames.old ≤ 131073 }
+    ensures same { Same banks.old banks.new }
+    ensures drove { world result (held banks.new) frames.new
+        ≡ turn_of objects.now steps left (world s (held banks.old) frames.old) }
 {
-    let object = s.object;
-    let pc = s.pc as usize;
-    let commands = movie_object::commands_at(file, places, object);
-    let ran = vm::run_commands(gpr, psr, classes, commands, pc, steps);
-    let count = movie_object::count_of(file);
-    let end = ran.end;
-    let next = what_follows(end);
-    let mut t = s;
-    t.pc = ran.pc as u32;
-    act(frames, count, t, next, left)
+    let commands = objects.commands(s.object);
+    let ran = vm::run_commands(banks, commands, s.pc as usize, steps);
+    let here = Session {
+        pc: ran.pc as u32,
+        ..s
+    };
+    act(frames, objects.count(), here, what_follows(ran.end), left)
 }
 
-// Turn after turn, until one stops. Each turn that goes on is charged.
+// Turn after turn, until one stops. Each turn that goes on is charged. No `for`: that one stops in time is what a turn says.
+#[tactic(auto, using(crate::specs::Laws::turn_charged, crate::specs::Laws::drive_stop, crate::specs::Laws::drive_go))]
 pub fn drive(
-    gpr: &mut [u32],
-    psr: &mut [u32],
+    banks: &mut Banks,
     frames: &mut [u32],
-    classes: &[u8],
-    file: &[u8],
-    places: &[u32],
+    objects: &ObjectTable,
     s: Session,
     steps: u32,
-    objects: u32,
+    transitions: u32,
 ) -> RunEnd
-    requires { Ready classes.now file.now places.now gpr.old psr.old frames.old }
-    ensures { world result (banks gpr.new psr.new) frames.new
-        ≡ drive_of file.now steps objects (world s (banks gpr.old psr.old) frames.old) }
+    requires { length frames.old ≤ 131073 }
+    ensures same { Same banks.old banks.new }
+    ensures drove { world result (held banks.new) frames.new
+        ≡ drive_of objects.now steps transitions (world s (held banks.old) frames.old) }
 {
     let mut at = s;
-    let mut left = objects;
+    let mut left = transitions;
     loop {
-        match one_turn(gpr, psr, frames, classes, file, places, at, steps, left) {
+        match one_turn(banks, frames, objects, at, steps, left) {
             Turn::Go(next) => {
                 at = next;
-                left = left - 1;
+                left -= 1;
             }
             Turn::Stop(session, outcome) => {
                 return RunEnd { outcome, session };
@@ -223,39 +201,36 @@ pub fn drive(
     }
 }
 
+#[tactic(auto, unfolding(crate::specs::Rules::start_of))]
 fn begin(
-    gpr: &mut [u32],
-    psr: &mut [u32],
+    banks: &mut Banks,
     frames: &mut [u32],
-    classes: &[u8],
-    file: &[u8],
-    places: &[u32],
+    objects: &ObjectTable,
     s: Session,
     start: Start,
     b: Budgets,
 ) -> RunEnd
-    requires { Ready classes.now file.now places.now gpr.old psr.old frames.old }
-    ensures { world result (banks gpr.new psr.new) frames.new
-        ≡ begun file.now b (world s (banks gpr.old psr.old) frames.old) start }
+    requires { length frames.old ≤ 131073 }
+    ensures same { Same banks.old banks.new }
+    ensures drove { world result (held banks.new) frames.new
+        ≡ begun objects.now b (world s (held banks.old) frames.old) start }
 {
-    let steps = b.steps;
-    let objects = b.objects;
-    let mut t = s;
-    match start {
-        Start::Object(object) => {
-            if movie_object::count_of(file) <= object {
-                return RunEnd {
-                    outcome: RunOutcome::BadObject(object),
-                    session: s,
-                };
-            }
-            t.object = object;
-            t.pc = 0;
-            t.odepth = 0;
-            drive(gpr, psr, frames, classes, file, places, t, steps, objects)
+    let here = match start {
+        Start::Object(object) if objects.count() <= object => {
+            return RunEnd {
+                outcome: RunOutcome::BadObject(object),
+                session: s,
+            };
         }
-        Start::Here => drive(gpr, psr, frames, classes, file, places, t, steps, objects),
-    }
+        Start::Object(object) => Session {
+            object,
+            pc: 0,
+            odepth: 0,
+            ..s
+        },
+        Start::Here => s,
+    };
+    drive(banks, frames, objects, here, b.steps, b.objects)
 }
 
 fn waits_for(s: Session, start: Start) -> bool
@@ -267,38 +242,30 @@ fn waits_for(s: Session, start: Start) -> bool
     }
 }
 
-// Tests what was handed in, in the order of the refusals; one walk of the file fills the table of places.
-fn verdict(
+// Tests what was handed in, in the order of the refusals, and reads the file, whose walk fills the table of places.
+#[tactic(auto, unfolding(crate::specs::Rules::verdict_for))]
+fn opened<'a>(
     gpr: &[u32],
     psr: &[u32],
     frames: &[u32],
     titles: &[u32],
-    file: &[u8],
-    places: &mut [u32],
+    file: &'a [u8],
+    places: &'a mut [u32],
     s: Session,
     pending: bool,
     b: Budgets,
-) -> Verdict
+) -> Result<ObjectTable<'a>, Refusal>
     requires { count_of file.now ≤ length places.old }
-    ensures { Settled file.now places.new gpr.now psr.now frames.now result
-        (verdict_for file.now b titles.now pending (world s (banks gpr.now psr.now) frames.now)) }
+    ensures { result ≡ given (verdict_for file.now b titles.now pending (world s (banks gpr.now psr.now) frames.now)) file.now }
 {
-    let buffers = session::buffers_verdict(gpr, psr, frames, titles);
-    let Verdict::Fine = buffers else {
-        return buffers;
-    };
-    let budgets = b.verdict();
-    let Verdict::Fine = budgets else {
-        return budgets;
-    };
-    let objects = movie_object::walk_places(file, places);
-    let Verdict::Fine = objects else {
-        return objects;
-    };
-    let count = movie_object::count_of(file);
-    session::session_verdict(frames, titles, count, s, pending)
+    session::buffers_verdict(gpr, psr, frames, titles)?;
+    b.verdict()?;
+    let objects = ObjectTable::read(file, places)?;
+    session::session_verdict(frames, titles, objects.count(), s, pending)?;
+    Ok(objects)
 }
 
+#[tactic(auto, using(crate::specs::Laws::opened_room), unfolding(crate::specs::Rules::answer_of))]
 fn answer(
     gpr: &mut [u32],
     psr: &mut [u32],
@@ -309,24 +276,19 @@ fn answer(
     s: Session,
     start: Start,
     b: Budgets,
-) -> RunAnswer
+) -> Result<RunEnd, Refusal>
     requires { count_of file.now ≤ length places.old }
     ensures { world result (banks gpr.new psr.new) frames.new
         ≡ answer_of file.now b titles.now start (world s (banks gpr.old psr.old) frames.old) }
 {
     let pending = waits_for(s, start);
-    let found = verdict(gpr, psr, frames, titles, file, places, s, pending, b);
-    match found {
-        Verdict::Refused(refusal) => RunAnswer::Refused(refusal),
-        Verdict::Fine => {
-            let classes = register_model::classes();
-            let end = begin(gpr, psr, frames, &classes, file, places, s, start, b);
-            RunAnswer::Ran(end)
-        }
-    }
+    let objects = opened(gpr, psr, frames, titles, file, places, s, pending, b)?;
+    let mut banks = Banks { gpr, psr };
+    Ok(begin(&mut banks, frames, &objects, s, start, b))
 }
 
 // Most discs have few objects: a small table of places serves them.
+#[tactic(auto, using(crate::specs::Laws::count_small))]
 fn answer_with_table(
     gpr: &mut [u32],
     psr: &mut [u32],
@@ -336,16 +298,17 @@ fn answer_with_table(
     s: Session,
     start: Start,
     b: Budgets,
-) -> RunAnswer
+) -> Result<RunEnd, Refusal>
     ensures { world result (banks gpr.new psr.new) frames.new
         ≡ answer_of file.now b titles.now start (world s (banks gpr.old psr.old) frames.old) }
 {
     if movie_object::object_count(file) <= 1024 {
-        let mut few = [0u32; 1024];
-        return answer(gpr, psr, frames, titles, file, &mut few, s, start, b);
+        let mut few = [0; 1024];
+        answer(gpr, psr, frames, titles, file, &mut few, s, start, b)
+    } else {
+        let mut many = [0; 65536];
+        answer(gpr, psr, frames, titles, file, &mut many, s, start, b)
     }
-    let mut many = [0u32; 65536];
-    answer(gpr, psr, frames, titles, file, &mut many, s, start, b)
 }
 
 // Starts an object and drives until the objects finish or something is asked of the player.
@@ -358,7 +321,7 @@ pub fn run(
     s: Session,
     object: u32,
     b: Budgets,
-) -> RunAnswer
+) -> Result<RunEnd, Refusal>
     ensures { world result (banks gpr.new psr.new) frames.new
         ≡ answer_of file.now b titles.now (Start.Object object)
         (world s (banks gpr.old psr.old) frames.old) }
@@ -375,7 +338,7 @@ pub fn resume(
     file: &[u8],
     s: Session,
     b: Budgets,
-) -> RunAnswer
+) -> Result<RunEnd, Refusal>
     ensures { world result (banks gpr.new psr.new) frames.new
         ≡ answer_of file.now b titles.now Start.Here
         (world s (banks gpr.old psr.old) frames.old) }

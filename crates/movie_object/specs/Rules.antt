@@ -1,16 +1,11 @@
 -- What a MovieObject.bdmv says, and which files are read (document 01, module 5). Assumes nothing.
-use Rattle.std.specs.Prelude.{cond, List, [], ℕ, zero, suc, ◌+◌, ◌*◌, ◌/◌, ◌%◌, leb, ltb, length, get_or, take, drop}
+use Rattle.std.specs.Prelude.{cond, List, [], ℕ, zero, suc, ◌+◌, ◌*◌, ◌/◌, ◌%◌, leb, ltb, length, get_or, take, drop, Err, Ok, Result}
 use Rattle.common.specs.Rules.{be2, be4, header_of}
-use Rattle.error.specs.Rules.{first_of}
+use Rattle.error.specs.Rules.{first_of, given, Verdict}
 use Rattle.error.specs.declared.Refusal.TheVariants.{BadBody, NotAnEntry}
-use Rattle.error.specs.declared.Verdict.{Verdict}
-use Rattle.error.specs.declared.Verdict.TheVariants as verdict
 use Rattle.movie_object.specs.declared.MovieObjects.{MovieObjects}
-use Rattle.movie_object.specs.declared.Parsed.{Parsed}
-use Rattle.movie_object.specs.declared.Parsed.TheVariants as parsed
 use Rattle.movie_object.specs.declared.MovieObject.{MovieObject}
-use Rattle.movie_object.specs.declared.Object.{Object}
-use Rattle.movie_object.specs.declared.Object.TheVariants as object
+use Rattle.error.specs.declared.Refusal.{Refusal}
 
 -- The number of objects stands at 76.
 unfoldable pub count_of : List ℕ → ℕ
@@ -33,8 +28,8 @@ mobj = 0x4D4F424A
 unfoldable pub body_of : List ℕ → Verdict
 body_of s =
     cond (leb (44 + be4 s 40) (length s))
-    (cond (leb (place s (count_of s)) (length s)) verdict.Fine (verdict.Refused BadBody))
-    (verdict.Refused BadBody)
+    (cond (leb (place s (count_of s)) (length s)) (Ok tt) (Err BadBody))
+    (Err BadBody)
 
 unfoldable pub verdict_of : List ℕ → Verdict
 verdict_of s = first_of (header_of mobj s) (body_of s)
@@ -53,12 +48,8 @@ commands_of s n = cond (ltb n (count_of s)) (part_at s (place s n)) []
 abbrev pub objects_of : List ℕ → MovieObjects
 objects_of s = record { version = be4 s 4; count = count_of s }
 
-abbrev pub parsed_as : Verdict → MovieObjects → Parsed
-parsed_as verdict.Fine m = parsed.Read m
-parsed_as (verdict.Refused r) m = parsed.Refused r
-
-unfoldable pub parse_of : List ℕ → Parsed
-parse_of s = parsed_as (verdict_of s) (objects_of s)
+unfoldable pub parse_of : List ℕ → Result MovieObjects Refusal
+parse_of s = given (verdict_of s) (objects_of s)
 
 -- The flags are the top three bits of an object's first byte.
 unfoldable pub head_at : List ℕ → ℕ → MovieObject
@@ -73,21 +64,17 @@ head_at s at =
 abbrev pub head_of : List ℕ → ℕ → MovieObject
 head_of s n = head_at s (place s n)
 
-abbrev pub found_as : Verdict → MovieObject → Object
-found_as verdict.Fine o = object.Found o
-found_as (verdict.Refused r) o = object.Refused r
-
 -- 10 not an entry: an object that isn't on the disc.
 abbrev pub on_disc : List ℕ → ℕ → Verdict
-on_disc s n = cond (ltb n (count_of s)) verdict.Fine (verdict.Refused NotAnEntry)
+on_disc s n = cond (ltb n (count_of s)) (Ok tt) (Err NotAnEntry)
 
-unfoldable pub object_of : List ℕ → ℕ → Object
-object_of s n = found_as (first_of (verdict_of s) (on_disc s n)) (head_of s n)
+unfoldable pub object_of : List ℕ → ℕ → Result MovieObject Refusal
+object_of s n = given (first_of (verdict_of s) (on_disc s n)) (head_of s n)
 
 -- A refused file has no commands.
 abbrev pub where_fine : Verdict → List ℕ → List ℕ
-where_fine verdict.Fine l = l
-where_fine (verdict.Refused r) l = []
+where_fine (Ok u) l = l
+where_fine (Err r) l = []
 
 unfoldable pub part_of : List ℕ → ℕ → List ℕ
 part_of s n = where_fine (verdict_of s) (commands_of s n)

@@ -1,34 +1,29 @@
 // MovieObject.bdmv: which files are read, what an object's head says, and its commands as a part of the file (the Rust's movie_object.rs).
 #![tactic(auto)]
 
-ghost use Rattle.std.specs.Prelude.{◌≡◌, ◌+◌, ◌*◌, ◌≤◌, ◌<◌, length, set};
+ghost use Rattle.std.specs.Prelude.{List, ℕ, ◌≡◌, ◌+◌, ◌*◌, ◌/◌, ◌≤◌, ◌<◌, length, set, OnOk, Ok};
 ghost use Rattle.common.specs.Rules.{be2, seek_of};
-ghost use Rattle.error.specs.declared.Verdict.TheVariants.{Fine};
-ghost use Rattle.movie_object.specs.Rules.{count_of, next, place, verdict_of, part_at, commands_of, parse_of, head_at, found_as, on_disc, head_of, object_of, part_of};
+ghost use Rattle.error.specs.Rules.{given};
+ghost use Rattle.movie_object.specs.Rules.{count_of, next, place, verdict_of, part_at, commands_of, parse_of, head_at, on_disc, head_of, object_of, part_of};
 ghost use Rattle.movie_object.specs.Pieces.{Placed, Walked};
 ghost use Rattle.movie_object.specs.Laws.{count_read, Heads, Walking};
 
-use common::{Half, Moved, Reader, Word, be16, be32, half_at, header};
-use error::{Refusal, Verdict};
+use common::{Reader, be16, be32, half_at, header};
+use error::Refusal;
+use std::marker::Model;
 
 // The letters MOBJ.
 const MOBJ: u32 = 0x4D4F424A;
 
 // What a file holds beside its objects.
-#[derive(Drop)]
+#[derive(Clone, Copy, Debug, PartialEq, Eq)]
 pub struct MovieObjects {
     pub version: u32,
     pub count: u16,
 }
 
-#[derive(Drop)]
-pub enum Parsed {
-    Read(MovieObjects),
-    Refused(Refusal),
-}
-
 // One object beside its commands: its three flags, and how many commands it has.
-#[derive(Clone, Copy)]
+#[derive(Clone, Copy, Debug, PartialEq, Eq)]
 pub struct MovieObject {
     pub resume_intention_flag: u8,
     pub menu_call_mask: u8,
@@ -36,231 +31,288 @@ pub struct MovieObject {
     pub commands: u16,
 }
 
-#[derive(Drop)]
-pub enum Object {
-    Found(MovieObject),
-    Refused(Refusal),
-}
-
-// How far a walk of the heads has come: a place, and how many heads stand before it.
-#[derive(Drop)]
-struct Passed {
-    at: usize,
-    heads: u16,
-}
-
 impl MovieObjects {
     // The version and the number of objects.
-    pub fn parse(file: &[u8]) -> Parsed
+    #[tactic(auto, using(crate::specs::Laws::count_in), unfolding(crate::specs::Rules::count_of, crate::specs::Rules::parse_of))]
+    pub fn parse(file: &[u8]) -> Result<MovieObjects, Refusal>
         ensures { result ≡ parse_of file.now }
     {
-        let found = verdict(file);
-        match found {
-            Verdict::Refused(why) => Parsed::Refused(why),
-            Verdict::Fine => Parsed::Read(MovieObjects {
-                version: be32(file, 4),
-                count: half_at(file, 76),
-            }),
-        }
+        verdict(file)?;
+        Ok(MovieObjects {
+            version: be32(file, 4),
+            count: half_at(file, 76),
+        })
     }
 
     // The flags and the number of commands of object n.
-    pub fn object(file: &[u8], n: u32) -> Object
+    #[tactic(auto, unfolding(crate::specs::Rules::object_of))]
+    pub fn object(file: &[u8], n: u32) -> Result<MovieObject, Refusal>
         ensures { result ≡ object_of file.now n }
     {
-        let found = verdict(file);
-        match found {
-            Verdict::Refused(why) => Object::Refused(why),
-            Verdict::Fine => object_of(file, n),
-        }
+        Objects::read(file)?.object(n)
     }
 
     // The commands of object n, a part of the file; nothing where the file is refused or there is no such object.
+    #[tactic(auto, unfolding(crate::specs::Rules::part_of))]
     pub fn commands(file: &[u8], n: u32) -> &[u8]
         ensures { result.now ≡ part_of file.now n }
     {
-        let found = verdict(file);
-        match found {
-            Verdict::Refused(_) => &file[..0],
-            Verdict::Fine => commands_of(file, n),
+        match Objects::read(file) {
+            Ok(objects) => objects.commands(n),
+            Err(_) => &[],
         }
     }
 }
 
 // The number of objects that a file states, before it is judged; bytes past the end count as 0.
+#[tactic(auto, unfolding(crate::specs::Rules::count_of))]
 pub fn object_count(file: &[u8]) -> u32
     ensures { result ≡ count_of file.now }
 {
-    half_at(file, 76) as u32
+    u32::from(half_at(file, 76))
 }
 
 // Whether the file is read.
-pub fn verdict(file: &[u8]) -> Verdict
+pub fn verdict(file: &[u8]) -> Result<(), Refusal>
     ensures { result ≡ verdict_of file.now }
 {
-    let mut unused = [0u32; 1];
-    walk_places(file, &mut unused)
+    walk_places(file, &mut [])
 }
 
 // One walk of the heads: whether the file is read, and where its objects stand, as far as the table reaches.
-pub fn walk_places(file: &[u8], places: &mut [u32]) -> Verdict
+pub fn walk_places(file: &[u8], places: &mut [u32]) -> Result<(), Refusal>
     ensures { Walked file.now places.new result }
 {
-    let head = header(file, MOBJ);
-    let Verdict::Fine = head else {
-        return head;
-    };
-    let Half::Value(count, first) = read_count(file) else {
-        return Verdict::Refused(Refusal::BadBody);
-    };
-    walk(file, first, count, places)
+    header(file, MOBJ)?;
+    let mut r = Reader::new(file);
+    let count = read_count(&mut r)?;
+    walk(&mut r, count, places)
 }
 
-// The number of objects and the position behind it, where the stated length lies within the file.
-fn read_count(file: &[u8]) -> Half
-    ensures { result ≡ count_read file.now }
+// The number of objects, and the reader behind it, where the stated length lies within the file.
+#[tactic(auto, unfolding(crate::specs::Rules::count_of, crate::specs::Laws::count_read))]
+fn read_count(r: &mut Reader) -> Result<u16, Refusal>
+    ensures same { r.new.buf ≡ r.old.buf }
+    ensures read { result ≡ count_read r.old.buf.now }
+    ensures here { OnOk result (r.new.pos ≡ 78) }
 {
-    let Moved::To(at) = Reader::new().seek(file, 40) else {
-        return Half::Refused(Refusal::BadBody);
-    };
-    let Word::Value(length, body) = at.read_u32(file) else {
-        return Half::Refused(Refusal::BadBody);
-    };
-    let Moved::To(_) = body.skip(file, length as usize) else {
-        return Half::Refused(Refusal::BadBody);
-    };
-    let Moved::To(count) = body.skip(file, 32) else {
-        return Half::Refused(Refusal::BadBody);
-    };
-    count.read_u16(file)
+    r.seek(40)?;
+    let length = r.read_u32()?;
+    let mut end = *r;
+    end.skip(length as usize)?;
+    r.skip(32)?;
+    r.read_u16()
 }
 
 // Whether n objects lie within the file; the places of all that were met are put into the table.
-fn walk(file: &[u8], first: Reader, n: u16, places: &mut [u32]) -> Verdict
-    requires { (length file.now ≤ 16777216) × (78 ≤ length file.now) × (first.pos ≡ 78) }
-    ensures { Heads file.now n places.new result }
+fn walk(r: &mut Reader, n: u16, places: &mut [u32]) -> Result<(), Refusal>
+    requires { (length r.old.buf.now ≤ 16777216) × (78 ≤ length r.old.buf.now) × (r.old.pos ≡ 78) }
+    ensures { Heads r.old.buf.now n places.new result }
 {
-    let mut at = first.pos;
-    let mut k: u16 = 0;
+    let mut k = 0;
+    // Not over 0..n: a turn passes a whole run of alike heads.
     while k < n {
-        put_place(places, k as usize, at as u32);
-        let Moved::To(next) = skip_object(file, Reader { pos: at }) else {
-            return Verdict::Refused(Refusal::BadBody);
-        };
-        let size = next.pos - at;
-        let passed = skip_alike(file, next.pos, size, k + 1, n, places);
-        at = passed.at;
-        k = passed.heads;
+        let head = r.pos;
+        put_place(places, k as usize, head as u32);
+        skip_object(r)?;
+        let size = r.pos - head;
+        let (at, heads) = skip_alike(r.buf, r.pos, size, k + 1, n, places);
+        r.pos = at;
+        k = heads;
     }
-    Verdict::Fine
-}
-
-fn come_to(at: usize, heads: u16) -> Passed
-    ensures { (result.at ≡ at) × (result.heads ≡ heads) }
-{
-    Passed { at, heads }
+    Ok(())
 }
 
 // Past the objects that are as long as the one before them: their size is at hand, so that no read waits for the last one.
-fn skip_alike(file: &[u8], from: usize, size: usize, k: u16, n: u16, places: &mut [u32]) -> Passed
+// The place that was come to, and how many heads stand before it. Measured: with the reader as a `&mut`, or as a `for` that returns within, it takes 1.4 times as long.
+fn skip_alike(
+    file: &[u8],
+    from: usize,
+    size: usize,
+    k: u16,
+    n: u16,
+    places: &mut [u32],
+) -> (usize, u16)
     requires { (length file.now ≤ 16777216) × (4 ≤ size) × Walking file.now n places.old from k }
-    ensures { (k ≤ result.heads) × Walking file.now n places.new result.at result.heads }
+    ensures on { k ≤ result.1 }
+    ensures passed { Walking file.now n places.new result.0 result.1 }
 {
     let mut at = from;
     let mut i = k;
-    while i < n {
-        if file.len() - at < size {
-            return come_to(at, i);
-        }
-        if 4 + 12 * (be16(file, at + 2) as usize) != size {
-            return come_to(at, i);
-        }
+    while i < n && size <= file.len() - at && 4 + 12 * usize::from(be16(file, at + 2)) == size {
         put_place(places, i as usize, at as u32);
-        at = at + size;
+        at += size;
         i += 1;
     }
-    come_to(at, i)
+    (at, i)
 }
 
 // Past one object: two flag bytes, the number of commands, and the commands.
-fn skip_object(file: &[u8], head: Reader) -> Moved
-    ensures { result ≡ seek_of file.now (next file.now head.pos) }
+#[tactic(auto, unfolding(crate::specs::Rules::next))]
+fn skip_object(r: &mut Reader) -> Result<(), Refusal>
+    ensures same { r.new.buf ≡ r.old.buf }
+    ensures answer { result ≡ (seek_of r.old.buf.now r.old.pos (next r.old.buf.now r.old.pos)).0 }
+    ensures here { OnOk result (r.new.pos ≡ next r.old.buf.now r.old.pos) }
 {
-    let Moved::To(at) = head.skip(file, 2) else {
-        return Moved::Refused(Refusal::BadBody);
-    };
-    let Half::Value(count, body) = at.read_u16(file) else {
-        return Moved::Refused(Refusal::BadBody);
-    };
-    body.skip(file, 12 * (count as usize))
+    r.skip(2)?;
+    let count = r.read_u16()?;
+    r.skip(12 * usize::from(count))
 }
 
 // The number of objects of an accepted file.
+#[tactic(auto, using(crate::specs::Laws::count_in), unfolding(crate::specs::Rules::count_of))]
 pub fn count_of(file: &[u8]) -> u32
-    requires { verdict_of file.now ≡ Fine }
+    requires { verdict_of file.now ≡ Ok tt }
     ensures { result ≡ count_of file.now }
 {
-    be16(file, 76) as u32
+    u32::from(be16(file, 76))
 }
 
 // A number into a table, where the table has such a place.
 fn put_place(places: &mut [u32], k: usize, at: u32)
     ensures { places.new ≡ set places.old k at }
 {
+    // Not `get_mut`: std says nothing of what a slice ends as after it, so `places.new` would be unknown.
     if k < places.len() {
         places[k] = at;
     }
 }
 
-// The commands of object n, by a table of places.
-pub fn commands_at<'a>(file: &'a [u8], places: &[u32], n: u32) -> &'a [u8]
-    requires { (verdict_of file.now ≡ Fine) × Placed file.now places.now }
-    ensures { result.now ≡ commands_of file.now n }
-{
-    if n < count_of(file) {
-        let at = places[n as usize] as usize;
-        return part_at(file, at);
+// An object file that is read; clauses see its bytes.
+#[derive(Drop)]
+pub struct Objects<'a> {
+    file: &'a [u8],
+}
+
+impl<'a> Model for Objects<'a> {
+    ghost Value = { List ℕ };
+
+    ghost view = { λ s. s.file.now };
+
+    ghost invariant = { λ s. verdict_of s.file.now ≡ Ok tt };
+}
+
+impl<'a> Objects<'a> {
+    pub fn read(file: &'a [u8]) -> Result<Self, Refusal>
+        ensures { result ≡ given (verdict_of file.now) file.now }
+    {
+        verdict(file)?;
+        Ok(Objects { file })
     }
-    &file[..0]
+
+    // The number of objects.
+    #[tactic(auto, using(crate::specs::Laws::count_in), unfolding(crate::specs::Rules::count_of))]
+    pub fn count(&self) -> u32
+        ensures { result ≡ count_of self.now }
+    {
+        u32::from(be16(self.file, 76))
+    }
+
+    // Where the head of object n stands.
+    pub fn place(&self, n: u32) -> usize
+        requires { n < count_of self.now }
+        ensures { result ≡ place self.now n }
+    {
+        place_of(self.file, n)
+    }
+
+    // The head of object n.
+    #[tactic(auto, using(crate::specs::Laws::object_in))]
+    pub fn object(&self, n: u32) -> Result<MovieObject, Refusal>
+        ensures { result ≡ given (on_disc self.now n) (head_of self.now n) }
+    {
+        if n < self.count() {
+            Ok(head_at(self.file, self.place(n)))
+        } else {
+            Err(Refusal::NotAnEntry)
+        }
+    }
+
+    // The commands of object n; nothing where there is no such object.
+    #[tactic(auto, using(crate::specs::Laws::object_in, crate::specs::Laws::commands_from, crate::specs::Laws::commands_missing))]
+    pub fn commands(&self, n: u32) -> &'a [u8]
+        ensures part { result.now ≡ commands_of self.now n }
+        ensures few { length result.now / 12 ≤ 1398101 }
+    {
+        if n < self.count() {
+            part_at(self.file, self.place(n))
+        } else {
+            &[]
+        }
+    }
+}
+
+// The same with a table of where its objects stand.
+#[derive(Drop)]
+pub struct ObjectTable<'a> {
+    file: &'a [u8],
+    places: &'a [u32],
+}
+
+impl<'a> Model for ObjectTable<'a> {
+    ghost Value = { List ℕ };
+
+    ghost view = { λ s. s.file.now };
+
+    ghost invariant = { λ s. (verdict_of s.file.now ≡ Ok tt) × Placed s.file.now s.places.now };
+}
+
+impl<'a> ObjectTable<'a> {
+    // Reads a file in one walk, which fills the table.
+    pub fn read(file: &'a [u8], places: &'a mut [u32]) -> Result<Self, Refusal>
+        requires { count_of file.now ≤ length places.old }
+        ensures { result ≡ given (verdict_of file.now) file.now }
+    {
+        walk_places(file, places)?;
+        Ok(ObjectTable { file, places })
+    }
+
+    pub fn count(&self) -> u32
+        ensures { result ≡ count_of self.now }
+    {
+        Objects { file: self.file }.count()
+    }
+
+    // The commands of object n; nothing where there is no such object.
+    #[tactic(auto, using(crate::specs::Laws::object_in, crate::specs::Laws::commands_from, crate::specs::Laws::commands_missing))]
+    pub fn commands(&self, n: u32) -> &'a [u8]
+        ensures part { result.now ≡ commands_of self.now n }
+        ensures few { length result.now / 12 ≤ 1398101 }
+    {
+        if n < self.count() {
+            part_at(self.file, self.places[n as usize] as usize)
+        } else {
+            &[]
+        }
+    }
 }
 
 // The commands of the object whose head stands at a place.
 pub fn part_at(file: &[u8], at: usize) -> &[u8]
     requires { at + 4 + 12 * be2 file.now (at + 2) ≤ length file.now }
-    ensures { result.now ≡ part_at file.now at }
+    ensures part { result.now ≡ part_at file.now at }
+    ensures few { length result.now / 12 ≤ 1398101 }
 {
     let start = at + 4;
-    let len = 12 * (be16(file, at + 2) as usize);
+    let len = 12 * usize::from(be16(file, at + 2));
     &file[start..start + len]
 }
 
 // Where the head of object n stands.
+#[tactic(auto, using(crate::specs::Laws::place_zero, crate::specs::Laws::place_next, crate::specs::Laws::object_from, crate::specs::Laws::head_from, crate::specs::Laws::good))]
 pub fn place_of(file: &[u8], n: u32) -> usize
-    requires { (verdict_of file.now ≡ Fine) × (n < count_of file.now) }
+    requires { (verdict_of file.now ≡ Ok tt) × (n < count_of file.now) }
     ensures { result ≡ place file.now n }
 {
-    let mut at: usize = 78;
-    let mut k: u32 = 0;
-    while k < n {
-        at = at + 4 + 12 * (be16(file, at + 2) as usize);
-        k += 1;
+    let mut at = 78;
+    for k in 0..n {
+        at += 4 + 12 * usize::from(be16(file, at + 2));
     }
     at
 }
 
-// The head of object n of an accepted file.
-fn object_of(file: &[u8], n: u32) -> Object
-    requires { verdict_of file.now ≡ Fine }
-    ensures { result ≡ found_as (on_disc file.now n) (head_of file.now n) }
-{
-    if n < count_of(file) {
-        let at = place_of(file, n);
-        return Object::Found(head_at(file, at));
-    }
-    Object::Refused(Refusal::NotAnEntry)
-}
-
 // What a head at a place says.
+#[tactic(auto, unfolding(crate::specs::Rules::head_at))]
 pub fn head_at(file: &[u8], at: usize) -> MovieObject
     requires { at + 4 ≤ length file.now }
     ensures { result ≡ head_at file.now at }
@@ -272,16 +324,4 @@ pub fn head_at(file: &[u8], at: usize) -> MovieObject
         title_search_mask: flags / 32 % 2,
         commands: be16(file, at + 2),
     }
-}
-
-// The commands of object n of an accepted file.
-fn commands_of(file: &[u8], n: u32) -> &[u8]
-    requires { verdict_of file.now ≡ Fine }
-    ensures { result.now ≡ commands_of file.now n }
-{
-    if n < count_of(file) {
-        let at = place_of(file, n);
-        return part_at(file, at);
-    }
-    &file[..0]
 }

@@ -1,19 +1,11 @@
 -- How long the texts are at most. Assumes nothing.
-use mathlib.Core.Path.{◌≡◌, refl}
-use mathlib.Core.List.{List}
-use Prim.Native.Nat.{ℕ, zero, suc, ◌+◌, ◌*◌, ◌≤◌, ◌<◌}
-use native.Mathlib.Numerals.{add-one}
-use native.Mathlib.Omega.{arith}
-use lib.Dec.{leb}
-use lib.ListN.{length, get_or, take, drop, length-drop, get_or-eq_default}
-use lib.Seq.{length-take-le}
-use borrow.Author.Tests.{leb-true, leb-false}
+use Rattle.std.proofs.Common.{◌≡◌, refl, List, ℕ, zero, suc, ◌+◌, ◌*◌, ◌≤◌, ◌<◌, Ok, leb, length, get_or, take, drop, add-one, arith, leb-true, leb-false, length-drop, length-take-le}
+use Rattle.std.proofs.Math.ListN.{get_or-eq_default}
 use Rattle.laws.specs.Cases.{by_test}
 use Rattle.laws.specs.Firsts.{blocks}
 use Rattle.laws.specs.Part.{part_at}
 use Rattle.common.specs.Rules.{be2}
 use Rattle.common.specs.Laws.{be2_below}
-use Rattle.error.specs.declared.Verdict.TheVariants.{Fine}
 use Rattle.movie_object.specs.Rules.{place, count_of, verdict_of, head_at}
 use Rattle.movie_object.specs.Laws.{place_suc, object_in, good}
 use Rattle.nav_list.proofs.Lengths.{longest}
@@ -74,7 +66,7 @@ unfolding count_of
 count_below s b = be2_below s 76 b
 
 -- an object has 4 bytes and 12 for each command, its text and a line end at most 97 and 118
-pub objects_short : (s : List ℕ) (n : ℕ) → Bytes s → verdict_of s ≡ Fine → n ≤ count_of s → length (blocks (block_text s) n) ≤ 57 * n + 10 * place s n
+pub objects_short : (s : List ℕ) (n : ℕ) → Bytes s → verdict_of s ≡ Ok tt → n ≤ count_of s → length (blocks (block_text s) n) ≤ 57 * n + 10 * place s n
 objects_short s zero b v h = omega (arith, none (block_text s))
 objects_short s (suc n) b v h =
     rw (← add-one n)

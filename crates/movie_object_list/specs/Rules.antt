@@ -1,13 +1,10 @@
 -- An object, and all objects of a file, as text (document 01, "Marked and run examples"; the Rust's `MovieObject::disassemble`). Assumes nothing.
-use Rattle.std.specs.Prelude.{cond, List, [], ◌∷◌, ◌++◌, ℕ, ◌*◌, eqb}
+use Rattle.std.specs.Prelude.{cond, List, [], ◌∷◌, ◌++◌, ℕ, ◌*◌, eqb, Err, Ok}
 use Rattle.laws.specs.Firsts.{blocks}
 use Rattle.text.specs.Rules.{bytes, numeral, right_in}
-use Rattle.error.specs.Rules.{first_of}
-use Rattle.error.specs.declared.Verdict.{Verdict}
-use Rattle.error.specs.declared.Verdict.TheVariants as verdict
+use Rattle.error.specs.Rules.{first_of, Verdict}
 use Rattle.movie_object.specs.declared.MovieObject.{MovieObject}
 use Rattle.movie_object.specs.Rules.{verdict_of, count_of, part_at, head_at, head_of, commands_of, on_disc}
-use Rattle.nav_list.specs.declared.Listed.TheVariants.{Refused}
 use Rattle.nav_list.specs.Rules.{line_at, Listing, listing, list_of}
 
 -- It is `cmds` unless the count is 1.
@@ -51,8 +48,8 @@ file_text s = blocks (block_text s) (count_of s)
 
 -- A refused file, or an object that isn't on the disc, alters nothing; and so does a text that is longer than the room.
 abbrev pub listed_as : Verdict → List ℕ → List ℕ → ℕ → Listing
-listed_as verdict.Fine text out at = list_of out at text
-listed_as (verdict.Refused r) text out at = listing (Refused r) out
+listed_as (Ok u) text out at = list_of out at text
+listed_as (Err r) text out at = listing (Err r) out
 
 unfoldable pub list_object : List ℕ → ℕ → List ℕ → ℕ → Listing
 list_object s n out at = listed_as (first_of (verdict_of s) (on_disc s n)) (object_text n (head_of s n) (commands_of s n)) out at

@@ -1,22 +1,24 @@
 -- Laws of the writer: the lengths, what an accepted record has, and what each verdict leaves. Assumes nothing.
-use Rattle.std.specs.Prelude.{◌≡◌, true, not, List, [], ◌∷◌, eqb, leb, take, drop, set, replicate}
+use Rattle.std.specs.Prelude.{◌≡◌, Bool, true, false, not, List, [], ◌∷◌, eqb, leb, take, drop, set, replicate, Ok}
 use Rattle.std.proofs.Math.Path.{refl, ap}
-use Rattle.std.proofs.Common.{sym, ◌∙◌, add-one, arith}
-use Prim.Native.Nat.{ℕ, zero, suc, ◌+◌, ◌*◌, ◌-◌, ◌%◌, ◌≤◌, ◌<◌}
-use Rattle.std.proofs.Math.Nat.{add-sub_cancel_left}
+use Rattle.std.proofs.Common.{drop-drop, sym, ◌∙◌, add-one, arith}
+use Prim.Native.Nat.{ℕ, zero, suc, ◌+◌, ◌*◌, ◌-◌, ◌/◌, ◌%◌, ◌≤◌, ◌<◌}
 use Rattle.std.proofs.Math.ListN.{length, get_or, length-append, length-drop}
 use Rattle.std.proofs.Math.Seq.{length-take-le}
 use borrow.Author.Tests.{le-leb, leb-true, eq-eqb, eqb-true, not-false}
 use Rattle.laws.specs.Cases.{both}
-use Rattle.laws.specs.Firsts.{sum, sum_suc, sum_mono, all_below, below_tells, blocks, blocks_suc}
+use Rattle.laws.specs.Firsts.{sum, sum_suc, sum_mono, all_below, below_tells, below_made, below_not, blocks, blocks_suc}
 use Rattle.laws.specs.Over.{over, over_next, store2}
 use Rattle.common.specs.Rules.{bytes2, bytes4, limit}
 use Rattle.common.specs.Laws.{room_tells, room_made}
 use Rattle.error.specs.Laws.{both_fine, not_refused}
 use Rattle.error.specs.Rules.{refused_if}
 use Rattle.error.specs.declared.Refusal.TheVariants.{BadBuffer, NotEncodable}
-use Rattle.error.specs.declared.Verdict.TheVariants.{Fine}
 use Rattle.movie_object_write.specs.Rules.{resume_at, menu_at, title_at, flag_byte, cmds_at, object_bytes, object, head_bytes, size_of, file_of, encodable, write_verdict}
+use Rattle.std.specs.Bool.{MatchBool}
+use Rattle.std.specs.Simd.{first_chunks}
+use Rattle.laws.specs.Part.{part_at}
+use Rattle.std.specs.List.{AllWithin, HoldsAt}
 
 -- ---- lengths
 
@@ -93,6 +95,12 @@ pub size_from : (counts : List ℕ) → 78 ≤ size_of counts
 unfolding size_of
 size_from counts = omega arith
 
+-- what a look at every count finds
+pub counts_judged : (l : List ℕ) (r : Bool) → MatchBool r (AllWithin (λ x. x < 65536) l 0 (length l)) ((k : ℕ) × (k < length l) × HoldsAt (λ x. 65536 ≤ x) l k)
+    → r ≡ all_below 65536 l (length l)
+counts_judged l true h = sym (below_made 65536 l (length l) (λ k p. h k 0 (omega arith) p))
+counts_judged l false (k, p, h) = sym (below_not 65536 l k (length l) p (h 0))
+
 -- ---- the verdict
 
 pub record Accepted (flags counts commands : List ℕ) (room : ℕ) : Type 0 where
@@ -101,7 +109,7 @@ pub record Accepted (flags counts commands : List ℕ) (room : ℕ) : Type 0 whe
   pub fits : size_of counts ≤ room
 
 module _ (flags counts commands : List ℕ) (room : ℕ) where
-  pub accepted : write_verdict flags counts commands room ≡ Fine → Accepted flags counts commands room
+  pub accepted : write_verdict flags counts commands room ≡ Ok tt → Accepted flags counts commands room
   unfolding write_verdict
   accepted e =
       let p1 = both_fine (refused_if (not (eqb (length commands % 12) 0)) BadBuffer) _ e in
@@ -113,7 +121,7 @@ module _ (flags counts commands : List ℕ) (room : ℕ) where
         fits = p3.1;
       }
 
-  pub accepts : Accepted flags counts commands room → write_verdict flags counts commands room ≡ Fine
+  pub accepts : Accepted flags counts commands room → write_verdict flags counts commands room ≡ Ok tt
   unfolding write_verdict
   accepts a =
       let w : length commands % 12 ≡ 0 = omega (arith, a.fields.whole) in
@@ -167,12 +175,28 @@ objects_step l m m' flags counts commands k at t e was next =
     over_next l m m' 78 _ _ at was next (omega (arith, d)) (omega (arith, d, o, t.room, t.more))
     ∙ ap (over l 78) (sym (blocks_suc (object flags counts commands) k))
 
--- the part of the commands that the loop lends
-pub cmds_part : (counts commands : List ℕ) (k from : ℕ) → from ≡ 12 * sum counts k → take (from + 12 * get_or counts k 0 - from) (drop from commands) ≡ cmds_at counts commands k
-unfolding cmds_at
-cmds_part counts commands k from e =
-    ap (λ (n : ℕ). take n (drop from commands)) (add-sub_cancel_left from (12 * get_or counts k 0))
-    ∙ ap (λ (n : ℕ). take (12 * get_or counts k 0) (drop n commands)) e
+-- the flags of object k, as the loop has them
+chunk_at : (m k : ℕ) (s d : List ℕ) → k < m → get_or (first_chunks 3 m s) k d ≡ take 3 (drop (3 * k) s)
+chunk_at zero k s d h = absurd (omega arith)
+chunk_at (suc m) zero s d h = refl
+chunk_at (suc m) (suc k) s d h = let e : 3 + 3 * k ≡ 3 * suc k = omega arith in chunk_at m k (drop 3 s) d (omega arith) ∙ ap (take 3) (drop-drop (3 * k) 3 s ∙ ap (λ (n : ℕ). drop n s) e)
+
+pub flags_at : (flags counts : List ℕ) (k : ℕ) {triples : List (List ℕ)} {bits : List ℕ} → length flags ≡ 3 * length counts → k < length counts
+    → triples ≡ first_chunks 3 (length flags / 3) flags → bits ≡ get_or triples k bits → (i : ℕ) → i < 3 → get_or bits i 0 ≡ get_or flags (3 * k + i) 0
+flags_at flags counts k {triples} {bits} three h e f i p =
+    ap (λ (l : List ℕ). get_or l i 0) (f ∙ ap (λ (t : List (List ℕ)). get_or t k bits) e ∙ chunk_at (length flags / 3) k flags bits (omega arith))
+    ∙ part_at flags (3 * k) 3 i p
+
+-- its commands, and those after them
+module _ (counts commands : List ℕ) (k : ℕ) {count : ℕ} {rest : List ℕ} (here : count ≡ get_or counts k 0) (left : rest ≡ drop (12 * sum counts k) commands) where
+  pub cmds_front : {part : List ℕ} → part ≡ take (12 * count) rest → part ≡ cmds_at counts commands k
+  unfolding cmds_at
+  cmds_front e = rw (e, here, left)
+
+  pub cmds_back : {after : List ℕ} → after ≡ drop (12 * count) rest → after ≡ drop (12 * sum counts (k + 1)) commands
+  cmds_back e =
+      let n : 12 * sum counts k + 12 * count ≡ 12 * sum counts (k + 1) = omega (arith, here, sum_suc counts k) in
+      e ∙ ap (drop (12 * count)) left ∙ drop-drop (12 * count) (12 * sum counts k) commands ∙ ap (λ (m : ℕ). drop m commands) n
 
 -- the two calls that write, one after the other
 pub file_steps : (l m1 m2 : List ℕ) (version : ℕ) (flags counts commands : List ℕ) → Accepted flags counts commands (length l)

@@ -1,5 +1,5 @@
 -- Writing then reading gives the record back, and reading then writing the bytes of a file that could be written. Assumes nothing.
-use Rattle.std.specs.Prelude.{◌≡◌, drop}
+use Rattle.std.specs.Prelude.{◌≡◌, drop, Ok}
 use Rattle.std.proofs.Math.Path.{refl, sym, ap, subst}
 use Rattle.std.proofs.Common.{◌∙◌, add_assoc, add-one, take_at, drop-drop}
 use mathlib.Core.List.{List, [], ◌∷◌, ◌++◌, append_assoc, append-nil}
@@ -14,10 +14,8 @@ use Rattle.laws.specs.Firsts.{sum, sum_mono, below_made, blocks, blocks_around, 
 use Rattle.laws.specs.Part.{part_cons}
 use Rattle.common.specs.Rules.{be2, be4, bytes2, bytes4}
 use Rattle.common.specs.Laws.{be2_skip, be2_bytes2, be4_bytes4, be2_below, bytes2_be2, bytes4_be4, zeros_at}
-use Rattle.error.specs.declared.Verdict.TheVariants.{Fine}
 use Rattle.movie_object.specs.declared.MovieObject.{MovieObject}
 use Rattle.movie_object.specs.declared.MovieObjects.{MovieObjects}
-use Rattle.movie_object.specs.declared.Object.TheVariants.{Found}
 use Rattle.movie_object.specs.Rules.{mobj, place, count_of, verdict_of, part_at, objects_of, parse_of, head_at, object_of, part_of}
 use Rattle.movie_object.specs.Laws.{Good, good, verdict_good, place_zero, place_suc, place_next, commands_from, object_in}
 use Rattle.movie_object_write.specs.Rules.{resume_at, menu_at, title_at, flag_byte, cmds_at, object_bytes, object, head_bytes, size_of, file_of, write_verdict, object_read, Holds, Made, WritingThenReading, ReadingThenWriting}
@@ -131,7 +129,7 @@ module _ (version : ℕ) (flags counts commands : List ℕ) (room : ℕ) (a : Ac
   unfolding n size_of
   last_place = ap (place file) count_back ∙ place_front (length counts) (omega arith) ∙ length_front (length counts) (omega arith) ∙ sym length_file
 
-  fine : verdict_of file ≡ Fine
+  fine : verdict_of file ≡ Ok tt
   fine =
       verdict_good file
       (record {
@@ -165,7 +163,7 @@ module _ (version : ℕ) (flags counts commands : List ℕ) (room : ℕ) (a : Ac
   on_disc_tells : (k : ℕ) → k < n → k < count_of file
   on_disc_tells k h = omega (arith, count_back)
 
-  object_back : (k : ℕ) → k < n → object_of file k ≡ Found (object_read flags counts k)
+  object_back : (k : ℕ) → k < n → object_of file k ≡ Ok (object_read flags counts k)
   unfolding object_of
   object_back k h = rw (fine, lt-ltb k (count_of file) (on_disc_tells k h), head_back k h)
 
@@ -355,7 +353,7 @@ module _ (s : List ℕ) (version : ℕ) (flags counts commands : List ℕ) (room
         whole = h.whole;
       }
 
-  accepted_back : write_verdict flags counts commands room ≡ Fine
+  accepted_back : write_verdict flags counts commands room ≡ Ok tt
   accepted_back =
       accepts flags counts commands room
       (record { fields = fields; short = omega (arith, size_same, g.head.short); fits = omega (arith, size_same, fits) })

@@ -1,14 +1,10 @@
 -- The MovieObject.bdmv of a record, what refuses it, and what the writer leaves (document 01, module 5). Assumes nothing.
-use Rattle.std.specs.Prelude.{◌≡◌, Bool, not, ◌&&◌, List, ◌∷◌, ◌++◌, ℕ, ◌+◌, ◌*◌, ◌-◌, ◌%◌, ◌≤◌, ◌<◌, eqb, leb, length, get_or, take, drop, replicate}
+use Rattle.std.specs.Prelude.{◌≡◌, Bool, not, ◌&&◌, List, ◌∷◌, ◌++◌, ℕ, ◌+◌, ◌*◌, ◌-◌, ◌%◌, ◌≤◌, ◌<◌, eqb, leb, length, get_or, take, drop, replicate, Ok}
 use Rattle.laws.specs.Firsts.{sum, all_below, blocks}
 use Rattle.common.specs.Rules.{be4, bytes2, bytes4, room_verdict, Left, left_as}
-use Rattle.error.specs.Rules.{first_of, refused_if}
+use Rattle.error.specs.Rules.{first_of, refused_if, Verdict}
 use Rattle.error.specs.declared.Refusal.TheVariants.{BadBuffer, NotEncodable}
-use Rattle.error.specs.declared.Verdict.{Verdict}
-use Rattle.error.specs.declared.Verdict.TheVariants as verdict
 use Rattle.movie_object.specs.declared.MovieObject.{MovieObject}
-use Rattle.movie_object.specs.declared.Object.TheVariants as found
-use Rattle.movie_object.specs.declared.Parsed.TheVariants as parsed
 use Rattle.movie_object.specs.Rules.{mobj, place, count_of, verdict_of, parse_of, object_of, part_of}
 
 -- A record is a version; for each object three flags and a number of commands; and all commands, one after the other.
@@ -90,15 +86,15 @@ object_read flags counts k =
     }
 
 pub record Holds (file : List ℕ) (version : ℕ) (flags counts commands : List ℕ) : Type 0 where
-  pub head : parse_of file ≡ parsed.Read (record { version = version; count = length counts })
-  pub objects : (k : ℕ) → k < length counts → object_of file k ≡ found.Found (object_read flags counts k)
+  pub head : parse_of file ≡ Ok (record { version = version; count = length counts })
+  pub objects : (k : ℕ) → k < length counts → object_of file k ≡ Ok (object_read flags counts k)
   pub parts : (k : ℕ) → k < length counts → part_of file k ≡ cmds_at counts commands k
   pub three : length flags ≡ 3 * length counts
   pub whole : 12 * sum counts (length counts) ≡ length commands
 
 -- The files that the writer could have made: reserved bytes and bits are zero, the stated length ends with the file, and so does the last object.
 pub record Made (file : List ℕ) : Type 0 where
-  pub accepted : verdict_of file ≡ verdict.Fine
+  pub accepted : verdict_of file ≡ Ok tt
   pub reserved : (i : ℕ) → i < 32 → (get_or file (8 + i) 0 ≡ 0) × (get_or file (44 + i) 0 ≡ 0)
   pub stated : 44 + be4 file 40 ≡ length file
   pub ends : place file (count_of file) ≡ length file
@@ -107,7 +103,7 @@ pub record Made (file : List ℕ) : Type 0 where
 -- Writing then reading gives the record back, and such a file is one that the writer could have made.
 abbrev pub WritingThenReading : Type 0
 WritingThenReading =
-    (version : ℕ) (flags counts commands : List ℕ) (room : ℕ) → version < 4294967296 → write_verdict flags counts commands room ≡ verdict.Fine
+    (version : ℕ) (flags counts commands : List ℕ) (room : ℕ) → version < 4294967296 → write_verdict flags counts commands room ≡ Ok tt
     → Holds (file_of version flags counts commands) version flags counts commands × Made (file_of version flags counts commands)
 
 -- Reading then writing gives the bytes back, for each file of bytes that the writer could have made.
@@ -115,4 +111,4 @@ abbrev pub ReadingThenWriting : Type 0
 ReadingThenWriting =
     (file : List ℕ) (version : ℕ) (flags counts commands : List ℕ) (room : ℕ) → ((i : ℕ) → get_or file i 0 < 256) → length file ≤ room
     → Made file → Holds file version flags counts commands
-    → (write_verdict flags counts commands room ≡ verdict.Fine) × (file_of version flags counts commands ≡ file)
+    → (write_verdict flags counts commands room ≡ Ok tt) × (file_of version flags counts commands ≡ file)

@@ -1,27 +1,31 @@
 // Writing MovieObject.bdmv into a lent buffer (the Rust's `MovieObjects::encode`).
 #![tactic(auto)]
 
-ghost use Rattle.std.specs.Prelude.{◌≡◌, ◌+◌, ◌*◌, ◌-◌, ◌≤◌, ◌<◌, length};
+ghost use Rattle.std.specs.Prelude.{◌≡◌, ◌+◌, ◌*◌, ◌-◌, ◌≤◌, ◌<◌, length, Ok};
 ghost use Rattle.laws.specs.Firsts.{sum, all_below, blocks};
 ghost use Rattle.laws.specs.Over.{over};
-ghost use Rattle.common.specs.Rules.{left, left_as};
+ghost use Rattle.common.specs.Rules.{left};
 ghost use Rattle.movie_object_write.specs.Rules.{flag_byte, object_bytes, object, head_bytes, encodable, write_verdict, file_of, size_of, write_of, WritingThenReading, ReadingThenWriting};
 ghost use Rattle.movie_object_write.specs.Laws.{Accepted};
-ghost use Rattle.error.specs.declared.Verdict.TheVariants.{Fine};
 
-use common::{Written, all_below, put_bytes, put_zeros, put16, put32, room_verdict};
-use error::{Refusal, Verdict};
+use common::{all_below, put_bytes, put_zeros, put16, put32, room_verdict};
+use error::Refusal;
 
 // The file of a record: its version; for each object three flags of one bit and a number of commands; and all commands, one after the other.
-pub fn write(version: u32, flags: &[u8], counts: &[u32], commands: &[u8], out: &mut [u8]) -> Written
+// Three slices side by side, since the C call lends them so and `write_of` speaks of them.
+#[tactic(auto, using(crate::specs::Laws::accepted), unfolding(crate::specs::Rules::write_of))]
+pub fn write(
+    version: u32,
+    flags: &[u8],
+    counts: &[u32],
+    commands: &[u8],
+    out: &mut [u8],
+) -> Result<usize, Refusal>
     ensures { left out.new result
         ≡ write_of version flags.now counts.now commands.now out.old }
 {
-    let found = write_verdict(flags, counts, commands, out.len());
-    match found {
-        Verdict::Refused(why) => Written::Refused(why),
-        Verdict::Fine => write_file(version, flags, counts, commands, out),
-    }
+    write_verdict(flags, counts, commands, out.len())?;
+    Ok(write_file(version, flags, counts, commands, out))
 }
 
 // Theorem: writing then reading gives the record back, and the file is one that the writer could have made.
@@ -35,89 +39,58 @@ pub fn reading_then_writing()
 {}
 
 // Whether the record is written: 6, 9, 5.
-fn write_verdict(flags: &[u8], counts: &[u32], commands: &[u8], room: usize) -> Verdict
+#[tactic(auto, unfolding(crate::specs::Rules::write_verdict))]
+fn write_verdict(flags: &[u8], counts: &[u32], commands: &[u8], room: usize) -> Result<(), Refusal>
     ensures { result ≡ write_verdict flags.now counts.now commands.now room }
 {
-    if commands.len() % 12 != 0 {
-        return Verdict::Refused(Refusal::BadBuffer);
-    }
-    if is_encodable(flags, counts, commands) {
-        let size = 78 + 4 * counts.len() + commands.len();
-        return room_verdict(size, room);
-    }
-    Verdict::Refused(Refusal::NotEncodable)
+    Refusal::BadBuffer.refused_if(commands.len() % 12 != 0)?;
+    Refusal::NotEncodable.refused_if(!is_encodable(flags, counts, commands))?;
+    room_verdict(78 + 4 * counts.len() + commands.len(), room)
 }
 
 // Whether every field fits its bits, and the commands are as many as the counts say.
+#[tactic(auto, unfolding(crate::specs::Rules::encodable))]
 fn is_encodable(flags: &[u8], counts: &[u32], commands: &[u8]) -> bool
     ensures { result ≡ encodable flags.now counts.now commands.now }
 {
-    if 65535 < counts.len() {
-        return false;
-    }
-    if flags.len() != 3 * counts.len() {
-        return false;
-    }
-    if !all_below(flags, 2) {
-        return false;
-    }
-    if !all_counts(counts) {
-        return false;
-    }
-    12 * total(counts) == commands.len()
+    counts.len() <= 65535
+        && flags.len() == 3 * counts.len()
+        && all_below(flags, 2)
+        && all_counts(counts)
+        && 12 * total(counts) == commands.len()
 }
 
 // Whether every count has two bytes.
 fn all_counts(counts: &[u32]) -> bool
     ensures { result ≡ all_below 65536 counts.now (length counts.now) }
 {
-    let mut k = 0;
-    while k < counts.len() {
-        if counts[k] < 65536 {
-            k += 1;
-        } else {
-            return false;
-        }
-    }
-    true
-}
-
-fn wide(x: u32) -> usize
-    ensures { result ≡ x }
-{
-    x as usize
+    counts.iter().all(|count| *count < 65536)
 }
 
 // The number of all commands.
+#[tactic(auto, using(laws::specs::Firsts::sum_suc), unfolding(laws::specs::Firsts::sum))]
 fn total(counts: &[u32]) -> usize
     requires { length counts.now ≤ 65535 }
     ensures { (result ≡ sum counts.now (length counts.now)) × (result ≤ 281474976710656) }
 {
-    let mut k = 0;
-    let mut n: usize = 0;
-    while k < counts.len() {
-        n += wide(counts[k]);
-        k += 1;
+    let mut n = 0;
+    for count in counts {
+        n += *count as usize;
     }
     n
 }
 
-// The bytes of an accepted record.
-fn write_file(
-    version: u32,
-    flags: &[u8],
-    counts: &[u32],
-    commands: &[u8],
-    out: &mut [u8],
-) -> Written
+// The bytes of an accepted record; the number of them.
+#[tactic(auto, using(crate::specs::Laws::size_is, crate::specs::Laws::size_from, crate::specs::Laws::file_steps))]
+fn write_file(version: u32, flags: &[u8], counts: &[u32], commands: &[u8], out: &mut [u8]) -> usize
     requires { Accepted flags.now counts.now commands.now (length out.old) }
-    ensures { left out.new result
-        ≡ left_as Fine (file_of version flags.now counts.now commands.now) (size_of counts.now) out.old }
+    ensures bytes { out.new ≡ over out.old 0 (file_of version flags.now counts.now commands.now) }
+    ensures size { result ≡ size_of counts.now }
 {
     let size = 78 + 4 * counts.len() + commands.len();
     put_head(out, version, counts.len() as u16, (size - 44) as u32);
     put_objects(out, flags, counts, commands);
-    Written::Bytes(size)
+    size
 }
 
 // The 78 bytes before the objects.
@@ -134,22 +107,25 @@ fn put_head(out: &mut [u8], version: u32, n: u16, stated: u32)
 }
 
 // All objects, one after the other.
+#[tactic(auto, using(laws::specs::Over::over_nil), unfolding(laws::specs::Firsts::blocks, laws::specs::Firsts::sum))]
 fn put_objects(out: &mut [u8], flags: &[u8], counts: &[u32], commands: &[u8])
     requires { Accepted flags.now counts.now commands.now (length out.old) }
     ensures { out.new
         ≡ over out.old 78 (blocks (object flags.now counts.now commands.now) (length counts.now)) }
 {
-    let mut k = 0;
+    let (triples, _) = flags.as_chunks::<3>();
+    let mut rest = commands;
     let mut at = 78;
-    let mut from = 0;
-    while k < counts.len() {
-        let count = counts[k];
-        let len = 12 * (count as usize);
-        let bits = flag_byte(flags[3 * k], flags[3 * k + 1], flags[3 * k + 2]);
-        put_object(out, at, bits, count as u16, &commands[from..from + len]);
-        at = at + 4 + len;
-        from = from + len;
-        k += 1;
+    for (bits, count) in triples.iter().zip(counts) {
+        let (part, after) = rest.split_at(12 * (*count as usize));
+        at = put_object(
+            out,
+            at,
+            flag_byte(bits[0], bits[1], bits[2]),
+            *count as u16,
+            part,
+        );
+        rest = after;
     }
 }
 
@@ -161,13 +137,16 @@ fn flag_byte(resume: u8, menu: u8, title: u8) -> u8
     resume * 128 + menu * 64 + title * 32
 }
 
-// One object: its flags, a zero, its count and its commands.
-fn put_object(out: &mut [u8], at: usize, bits: u8, count: u16, commands: &[u8])
+// One object: its flags, a zero, its count and its commands. The place behind it.
+#[tactic(auto, using(crate::specs::Laws::object_steps))]
+fn put_object(out: &mut [u8], at: usize, bits: u8, count: u16, commands: &[u8]) -> usize
     requires { at + 4 + length commands.now ≤ length out.old }
-    ensures { out.new ≡ over out.old at (object_bytes bits count commands.now) }
+    ensures bytes { out.new ≡ over out.old at (object_bytes bits count commands.now) }
+    ensures behind { result ≡ at + 4 + length commands.now }
 {
     out[at] = bits;
     out[at + 1] = 0;
     put16(out, at + 2, count);
     put_bytes(out, at + 4, commands);
+    at + 4 + commands.len()
 }

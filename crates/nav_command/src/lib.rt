@@ -1,10 +1,12 @@
 // One navigation command: its parts, and how twelve bytes are read as one.
 #![tactic(auto)]
 
-ghost use Rattle.std.specs.Prelude.{◌≡◌, ◌<◌};
-ghost use Rattle.nav_command.specs.Rules.{branch_of, compare_of, set_of, operation_of, group_of, operand_of, command_of};
+ghost use Rattle.std.specs.Prelude.{◌≡◌, map};
+ghost use Rattle.nav_command.specs.Rules.{from_zero, branch_of, compare_of, set_of, operation_of, group_of, bank_of, operand_of, command_of};
+ghost use Rattle.nav_command.specs.Pieces.{code_in};
+ghost use Rattle.nav_command.specs.declared.Operation.TheVariants.{Branch};
 
-#[derive(Clone, Copy)]
+#[derive(Clone, Copy, Debug, PartialEq, Eq)]
 pub enum CommandGroup {
     Branch,
     Compare,
@@ -12,7 +14,7 @@ pub enum CommandGroup {
     Reserved(u8),
 }
 
-#[derive(Clone, Copy)]
+#[derive(Clone, Copy, Debug, PartialEq, Eq)]
 pub enum BranchOp {
     Nop,
     GoTo,
@@ -30,7 +32,7 @@ pub enum BranchOp {
     LinkMK,
 }
 
-#[derive(Clone, Copy)]
+#[derive(Clone, Copy, Debug, PartialEq, Eq)]
 pub enum CompareOp {
     Bc,
     Eq,
@@ -41,7 +43,7 @@ pub enum CompareOp {
     Lt,
 }
 
-#[derive(Clone, Copy)]
+#[derive(Clone, Copy, Debug, PartialEq, Eq)]
 pub enum SetOp {
     Move,
     Swap,
@@ -60,7 +62,7 @@ pub enum SetOp {
     ShiftRight,
 }
 
-#[derive(Clone, Copy)]
+#[derive(Clone, Copy, Debug, PartialEq, Eq)]
 pub enum SystemOp {
     SetStream,
     SetNvTimer,
@@ -76,7 +78,7 @@ pub enum SystemOp {
 }
 
 // What a command does. A code without a name is kept beside its sub-group.
-#[derive(Clone, Copy)]
+#[derive(Clone, Copy, Debug, PartialEq, Eq)]
 pub enum Operation {
     Branch(BranchOp),
     Compare(CompareOp),
@@ -85,21 +87,21 @@ pub enum Operation {
     Unknown { sub_grp: u8, selector: u8 },
 }
 
-#[derive(Clone, Copy)]
+#[derive(Clone, Copy, Debug, PartialEq, Eq)]
 pub enum RegisterBank {
     Gpr,
     Psr,
     PsrSecondary,
 }
 
-#[derive(Clone, Copy)]
+#[derive(Clone, Copy, Debug, PartialEq, Eq)]
 pub enum Operand {
     Absent,
     Immediate(u32),
     Register { bank: RegisterBank, index: u16 },
 }
 
-#[derive(Clone, Copy)]
+#[derive(Clone, Copy, Debug, PartialEq, Eq)]
 pub struct DecodedCommand {
     pub operand_count: u8,
     pub group: CommandGroup,
@@ -182,93 +184,58 @@ fn unknown(sub: u8, code: u8) -> Operation
     }
 }
 
-fn goto_of(option: u8) -> Operation
-    ensures { result ≡ branch_of 0 option }
+// What a row of the sheet has for a code that counts from 1.
+fn from_one<T: Copy>(row: &[T], code: u8) -> Option<T>
+    ensures { result ≡ code_in row.now code }
 {
-    let at = option as usize;
-    if at < 3 {
-        let op = BRANCHES[at];
-        return Operation::Branch(op);
-    }
-    unknown(0, option)
+    let at = code.checked_sub(1)?;
+    row.get(usize::from(at)).copied()
 }
 
-fn jump_of(option: u8) -> Operation
-    ensures { result ≡ branch_of 1 option }
+// The operation of a branch option, by the row of its sub-group.
+fn branch_in(row: &[BranchOp], sub: u8, option: u8) -> Operation
+    ensures { result ≡ from_zero (map Branch row.now) sub option }
 {
-    let at = option as usize;
-    if at < 5 {
-        let op = BRANCHES[3 + at];
-        return Operation::Branch(op);
-    }
-    unknown(1, option)
+    row.get(usize::from(option))
+        .copied()
+        .map_or(unknown(sub, option), Operation::Branch)
 }
 
-fn play_of(option: u8) -> Operation
-    ensures { result ≡ branch_of 2 option }
-{
-    let at = option as usize;
-    if at < 6 {
-        let op = BRANCHES[8 + at];
-        return Operation::Branch(op);
-    }
-    unknown(2, option)
-}
-
+#[tactic(auto, unfolding(crate::specs::Rules::branch_of))]
 fn branch_of(sub: u8, option: u8) -> Operation
     ensures { result ≡ branch_of sub option }
 {
     match sub {
-        0 => goto_of(option),
-        1 => jump_of(option),
-        2 => play_of(option),
+        0 => branch_in(&BRANCHES[..3], sub, option),
+        1 => branch_in(&BRANCHES[3..8], sub, option),
+        2 => branch_in(&BRANCHES[8..], sub, option),
         _ => unknown(sub, option),
     }
 }
 
+#[tactic(auto, using(crate::proofs::Laws::at_code), unfolding(crate::specs::Rules::compare_of))]
 fn compare_of(sub: u8, code: u8) -> Operation
     ensures { result ≡ compare_of sub code }
 {
-    let at = code as usize;
-    if at == 0 {
-        return unknown(sub, code);
-    }
-    if at <= 7 {
-        let op = COMPARES[at - 1];
-        return Operation::Compare(op);
-    }
-    unknown(sub, code)
+    from_one(&COMPARES, code).map_or(unknown(sub, code), Operation::Compare)
 }
 
+#[tactic(auto, using(crate::proofs::Laws::at_code), unfolding(crate::specs::Rules::set_of))]
 fn register_of(code: u8) -> Operation
     ensures { result ≡ set_of 0 code }
 {
-    let at = code as usize;
-    if at == 0 {
-        return unknown(0, code);
-    }
-    if at <= 15 {
-        let op = SETS[at - 1];
-        return Operation::Set(op);
-    }
-    unknown(0, code)
+    from_one(&SETS, code).map_or(unknown(0, code), Operation::Set)
 }
 
 // The operation of a Set code of sub-group 1.
+#[tactic(auto, using(crate::proofs::Laws::at_code), unfolding(crate::specs::Rules::set_of))]
 pub fn system_of(code: u8) -> Operation
     ensures { result ≡ set_of 1 code }
 {
-    let at = code as usize;
-    if at == 0 {
-        return unknown(1, code);
-    }
-    if at <= 11 {
-        let op = SYSTEMS[at - 1];
-        return Operation::System(op);
-    }
-    unknown(1, code)
+    from_one(&SYSTEMS, code).map_or(unknown(1, code), Operation::System)
 }
 
+#[tactic(auto, unfolding(crate::specs::Rules::set_of))]
 fn set_of(sub: u8, code: u8) -> Operation
     ensures { result ≡ set_of sub code }
 {
@@ -303,34 +270,37 @@ impl CommandGroup {
     }
 }
 
+impl RegisterBank {
+    // The bank that the upper bits of an operand word name.
+    fn from_word(word: u32) -> Self
+        ensures { result ≡ bank_of word }
+    {
+        if word < 0x8000_0000 {
+            RegisterBank::Gpr
+        } else if word < 0xC000_0000 {
+            RegisterBank::Psr
+        } else {
+            RegisterBank::PsrSecondary
+        }
+    }
+}
+
 impl Operand {
     // An operand word that stands if `there`, and is a number of its own if `immediate`.
+    #[tactic(auto, unfolding(crate::specs::Rules::operand_of))]
     fn decode(there: bool, immediate: bool, word: u32) -> Self
         ensures { result ≡ operand_of there immediate word }
     {
-        if there {
-            if immediate {
-                return Operand::Immediate(word);
+        if !there {
+            Operand::Absent
+        } else if immediate {
+            Operand::Immediate(word)
+        } else {
+            Operand::Register {
+                bank: RegisterBank::from_word(word),
+                index: (word % 4096) as u16,
             }
-            let index = (word % 4096) as u16;
-            if word < 0x8000_0000 {
-                return Operand::Register {
-                    bank: RegisterBank::Gpr,
-                    index,
-                };
-            }
-            if word < 0xC000_0000 {
-                return Operand::Register {
-                    bank: RegisterBank::Psr,
-                    index,
-                };
-            }
-            return Operand::Register {
-                bank: RegisterBank::PsrSecondary,
-                index,
-            };
         }
-        Operand::Absent
     }
 }
 

@@ -1,10 +1,7 @@
 -- How a drive of titles unrolls. Assumes nothing.
-use Rattle.std.specs.Prelude.{◌≡◌, List, eqb}
-use Rattle.std.proofs.Common.{sym, ap, ◌∙◌, arith, sub-one}
+use Rattle.std.specs.Prelude.{◌≡◌, ◌≤◌, List, eqb, length, Ok}
+use Rattle.std.proofs.Common.{sym, ap, arith, sub-one}
 use Prim.Native.Nat.{ℕ, zero, suc, ◌-◌, ◌<◌}
-use Rattle.error.specs.declared.Refusal.{Refusal}
-use Rattle.error.specs.declared.Verdict.{Verdict}
-use Rattle.error.specs.declared.Verdict.TheVariants.{Refused}
 use Rattle.laws.specs.Cases.{either_way}
 use Rattle.session.specs.declared.Session.{Session}
 use Rattle.session.specs.declared.Budgets.{Budgets}
@@ -15,8 +12,11 @@ use Rattle.nav_driver.specs.declared.Follow.{Follow}
 use Rattle.nav_driver.specs.declared.Follow.TheVariants.{Return, Jump, Call, Yield, End}
 use Rattle.nav_driver.specs.declared.Turn.{Turn}
 use Rattle.nav_driver.specs.declared.Turn.TheVariants.{Go, Stop}
-use Rattle.nav_driver.specs.Rules.{Seeded, follows, jumped, called, returned, acted, object_side, Rooms, rooms, turn_of, titles_of, ended}
-use Rattle.nav_driver.specs.Pieces.{Settled}
+use Rattle.nav_driver.specs.Rules.{Seeded, follows, jumped, called, returned, acted, object_side, Rooms, rooms, turn_of, titles_of, ended, verdict_for}
+use Rattle.error.specs.Laws.{both_fine}
+use Rattle.session.specs.Rules.{buffers_verdict}
+use Rattle.session.specs.Laws.{buffers_room}
+use Rattle.nav_driver.specs.declared.Start.{Start}
 
 stops : {s t : Session} {o : DriveOutcome} → Stop s o ≡ Go t → ⊥
 stops h = let z : ◌≡◌ {A = ℕ} 0 1 = cc in omega arith
@@ -52,16 +52,7 @@ module _ (x file : List ℕ) (b : Budgets) where
   titles_go zero w s r f t e = absurd (turn_spent x file b w s (ap (λ (v : Rooms Turn). v.it) (sym e)))
   titles_go (suc left) w s r f t e = rw (← e, sub-one)
 
--- a call that is refused settles nothing else
-pub settled_refused : {x file places gpr psr frames titles : List ℕ} {answer expected : Verdict} {r : Refusal} → answer ≡ Refused r
-    → expected ≡ Refused r → Settled x file places gpr psr frames titles answer expected
-settled_refused p q =
-    record {
-      judged = p ∙ sym q;
-      index = λ h. let z : ◌≡◌ {A = ℕ} 0 1 = cc in absurd (omega arith);
-      fine = λ h. let z : ◌≡◌ {A = ℕ} 0 1 = cc in absurd (omega arith);
-      placed = λ h. let z : ◌≡◌ {A = ℕ} 0 1 = cc in absurd (omega arith);
-      general = λ h. let z : ◌≡◌ {A = ℕ} 0 1 = cc in absurd (omega arith);
-      status = λ h. let z : ◌≡◌ {A = ℕ} 0 1 = cc in absurd (omega arith);
-      room = λ h. let z : ◌≡◌ {A = ℕ} 0 1 = cc in absurd (omega arith);
-    }
+-- what a call that is not refused has tested
+pub opened_rooms : (x file : List ℕ) (b : Budgets) (start : Start) (w : Rooms Session) → verdict_for x file b start w ≡ Ok tt → (length w.frames ≤ 131073) × (length w.titles ≤ 196610)
+unfolding verdict_for
+opened_rooms x file b start w e = buffers_room _ _ _ _ (both_fine (buffers_verdict w.regs.general w.regs.status w.frames w.titles) _ e).0

@@ -1,11 +1,7 @@
 -- Drives of titles: a turn, a drive of turns, and the driver's calls (document 01, "Objects and titles"). Assumes nothing.
-use Rattle.std.specs.Prelude.{true, false, cond, List, ℕ, zero, suc, ◌+◌, ◌-◌, ◌%◌, eqb, leb, ltb, set}
-use Rattle.error.specs.Rules.{first_of}
-use Rattle.error.specs.declared.Verdict.{Verdict}
-use Rattle.error.specs.declared.Verdict.TheVariants as verdict
+use Rattle.std.specs.Prelude.{true, false, cond, List, ℕ, zero, suc, ◌+◌, ◌-◌, ◌%◌, eqb, leb, ltb, set, Err, None, Ok, Option, Result, Some}
+use Rattle.error.specs.Rules.{first_of, Verdict}
 use Rattle.index_bdmv.specs.Rules.{resolve_of, verdict_of as indexVerdict}
-use Rattle.index_bdmv.specs.declared.Lead.{Lead}
-use Rattle.index_bdmv.specs.declared.Lead.TheVariants as L
 use Rattle.movie_object.specs.Rules.{count_of, verdict_of as objectsVerdict}
 use Rattle.session.specs.declared.Session.{Session}
 use Rattle.session.specs.declared.Budgets.{Budgets}
@@ -18,8 +14,6 @@ use Rattle.mobj_runner.specs.declared.RunOutcome.{RunOutcome}
 use Rattle.mobj_runner.specs.declared.RunOutcome.TheVariants as R
 use Rattle.mobj_runner.specs.declared.RunEnd.{RunEnd}
 use Rattle.mobj_runner.specs.Rules.{World, world, drive_of}
-use Rattle.nav_driver.specs.declared.Option32.{Option32}
-use Rattle.nav_driver.specs.declared.Option32.TheVariants.{None, Some}
 use Rattle.nav_driver.specs.declared.DriveOutcome.{DriveOutcome}
 use Rattle.nav_driver.specs.declared.DriveOutcome.TheVariants as D
 use Rattle.nav_driver.specs.declared.Follow.{Follow}
@@ -29,8 +23,7 @@ use Rattle.nav_driver.specs.declared.Turn.TheVariants.{Go, Stop}
 use Rattle.nav_driver.specs.declared.DriveEnd.{DriveEnd}
 use Rattle.nav_driver.specs.declared.Start.{Start}
 use Rattle.nav_driver.specs.declared.Start.TheVariants.{Entry, Here}
-use Rattle.nav_driver.specs.declared.DriveAnswer.{DriveAnswer}
-use Rattle.nav_driver.specs.declared.DriveAnswer.TheVariants as A
+use Rattle.error.specs.declared.Refusal.{Refusal}
 
 -- a title turn, and what the status registers then hold
 pub record Seeded : Type 0 where
@@ -58,7 +51,7 @@ title_value e = cond (ltb e 65536) e (cond (eqb e 65536) 0 65535)
 
 -- What the end of the object side asks for. Play and other requests wait for a resume.
 
-abbrev pub playing : ℕ → Option32 → Option32 → Follow
+abbrev pub playing : ℕ → Option ℕ → Option ℕ → Follow
 playing p item mark = Yield (D.Play (record { playlist = p; play_item = item; mark = mark }))
 
 abbrev pub asked : NavRequest → Follow
@@ -92,9 +85,9 @@ entered p n s e o =
 
 -- JumpTitle: charge, then the title, cut to its low 16 bits, or bad title, then start.
 
-abbrev pub jump_led : List ℕ → ℕ → Session → ℕ → Lead → Seeded
-jump_led p n s title L.Nothing = seeded (Stop s (D.BadTitle title)) p
-jump_led p n s title (L.Object o) = entered p n s title o
+abbrev pub jump_led : List ℕ → ℕ → Session → ℕ → Option ℕ → Seeded
+jump_led p n s title None = seeded (Stop s (D.BadTitle title)) p
+jump_led p n s title (Some o) = entered p n s title o
 
 unfoldable pub jumped : List ℕ → List ℕ → ℕ → Session → ℕ → ℕ → Seeded
 jumped p x n s to left =
@@ -108,9 +101,9 @@ frame_of s = record { entry = s.entry; object = s.object; pc = s.pc }
 abbrev pub deeper : Session → Session
 deeper s = session s.entry s.object s.pc s.odepth (s.tdepth + 1) s.pending
 
-abbrev pub call_led : List ℕ → List ℕ → ℕ → Session → ℕ → Lead → Titled
-call_led p t n s title L.Nothing = titled (Stop s (D.BadTitle title)) p t
-call_led p t n s title (L.Object o) =
+abbrev pub call_led : List ℕ → List ℕ → ℕ → Session → ℕ → Option ℕ → Titled
+call_led p t n s title None = titled (Stop s (D.BadTitle title)) p t
+call_led p t n s title (Some o) =
     cond (leb (title_room t) s.tdepth) (titled (Stop s D.TitleStackFull) p t)
     (beside (pushed_title t s.tdepth (frame_of s)) (entered p n (deeper s) title o))
 
@@ -193,9 +186,9 @@ cleared s = session s.entry s.object s.pc s.odepth 0 false
 abbrev pub arrived : Rooms Session → Seeded → Rooms Turn
 arrived w m = rooms m.turn (banks w.regs.general m.status) w.frames w.titles
 
-abbrev pub start_led : List ℕ → List ℕ → Budgets → ℕ → Rooms Session → Lead → Rooms DriveEnd
-start_led x file b e w L.Nothing = rooms (ended (D.BadTitle (bad_number e)) (cleared w.it)) w.regs w.frames w.titles
-start_led x file b e w (L.Object o) =
+abbrev pub start_led : List ℕ → List ℕ → Budgets → ℕ → Rooms Session → Option ℕ → Rooms DriveEnd
+start_led x file b e w None = rooms (ended (D.BadTitle (bad_number e)) (cleared w.it)) w.regs w.frames w.titles
+start_led x file b e w (Some o) =
     continued (entered w.regs.status (count_of file) (cleared w.it) e o).turn
     (arrived w (entered w.regs.status (count_of file) (cleared w.it) e o))
     (titles_of x file b b.titles)
@@ -222,7 +215,7 @@ begun x file b w Here = go_on_of x file b w
 
 abbrev pub start_verdict : Start → Verdict
 start_verdict (Entry e) = entry_verdict e
-start_verdict Here = verdict.Fine
+start_verdict Here = Ok tt
 
 unfoldable pub verdict_for : List ℕ → List ℕ → Budgets → Start → Rooms Session → Verdict
 verdict_for x file b start w =
@@ -233,9 +226,9 @@ verdict_for x file b start w =
     (first_of (objectsVerdict file) (session_verdict w.frames w.titles (count_of file) w.it w.it.pending)))))
 
 -- A refusal gives its number and leaves everything as it was.
-abbrev pub answered : Verdict → Rooms DriveEnd → Rooms Session → Rooms DriveAnswer
-answered verdict.Fine d w = rooms (A.Drove d.it) d.regs d.frames d.titles
-answered (verdict.Refused r) d w = rooms (A.Refused r) w.regs w.frames w.titles
+abbrev pub answered : Verdict → Rooms DriveEnd → Rooms Session → Rooms (Result DriveEnd Refusal)
+answered (Ok u) d w = rooms (Ok d.it) d.regs d.frames d.titles
+answered (Err r) d w = rooms (Err r) w.regs w.frames w.titles
 
-unfoldable pub answer_of : List ℕ → List ℕ → Budgets → Start → Rooms Session → Rooms DriveAnswer
+unfoldable pub answer_of : List ℕ → List ℕ → Budgets → Start → Rooms Session → Rooms (Result DriveEnd Refusal)
 answer_of x file b start w = answered (verdict_for x file b start w) (begun x file b w start) w

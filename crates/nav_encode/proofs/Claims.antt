@@ -10,7 +10,6 @@ use lib.Seq.{drop-cons, take_at}
 use borrow.Author.Tests.{le-leb}
 use Rattle.laws.specs.Over.{over, over_zero}
 use Rattle.error.specs.declared.Refusal.TheVariants.{NotEncodable}
-use Rattle.error.specs.declared.Verdict.TheVariants.{Fine, Refused}
 use Rattle.nav_command.specs.declared.CommandGroup.{CommandGroup}
 use Rattle.nav_command.specs.declared.CommandGroup.TheVariants as G
 use Rattle.nav_command.specs.declared.DecodedCommand.{DecodedCommand}
@@ -19,6 +18,7 @@ use Rattle.nav_encode.specs.Rules.{Twelve, cleared, bits_of, option_of, compare_
 use Rattle.nav_encode.specs.Theorems.{encoded, DecodesBack, EncodesBack, NoneDecode, RefusedIfNone, IgnoredBits}
 use Rattle.nav_encode.proofs.Equal.{same_eq, same_refl}
 use Rattle.nav_encode.proofs.Round.{kept, again, bit_small}
+use Rattle.std.specs.Prelude.{Err, Ok}
 
 -- twelve bytes, one by one
 next : (l : List ℕ) (k : ℕ) (rest : List ℕ) → length l ≡ 12 → k < 12 → drop (suc k) l ≡ rest → drop k l ≡ get_or l k 0 ∷ rest
@@ -101,7 +101,7 @@ returned c x e s =
     let back : command_of (bytes_of c) ≡ c = encodable_back c e in
     rw s (back, sym (kept_bytes (bytes_of c) (laid_twelve c)) ∙ ap bytes_of back)
 
-fine_only : (c : DecodedCommand) (l : List ℕ) → (encode_of c l).answer ≡ Fine → (encodable c ≡ true) × ((encode_of c l).held ≡ over l 0 (bytes_of c))
+fine_only : (c : DecodedCommand) (l : List ℕ) → (encode_of c l).answer ≡ Ok tt → (encodable c ≡ true) × ((encode_of c l).held ≡ over l 0 (bytes_of c))
 unfolding encode_of
 fine_only c l e = go (encodable c) (leb 12 (length l)) refl refl
   where
@@ -118,7 +118,7 @@ decodes c l e =
     record { back = r.0; zeros = r.1 }
 
 -- Refused means that none decode to it.
-not_refused : (c : DecodedCommand) (l : List ℕ) → encodable c ≡ true → (encode_of c l).answer ≡ Refused NotEncodable → ⊥
+not_refused : (c : DecodedCommand) (l : List ℕ) → encodable c ≡ true → (encode_of c l).answer ≡ Err NotEncodable → ⊥
 unfolding encode_of
 not_refused c l p e = go (leb 12 (length l)) refl
   where
@@ -126,7 +126,7 @@ not_refused c l p e = go (leb 12 (length l)) refl
     go true q = let z : ◌≡◌ {A = ℕ} 0 1 = cc (rw (p, q) at e) in omega arith
     go false q = let z : ◌≡◌ {A = ℕ} 0 1 = cc (rw (p, q) at e) in omega arith
 
-refuses : (c : DecodedCommand) (l : List ℕ) → encodable c ≡ false → (encode_of c l).answer ≡ Refused NotEncodable
+refuses : (c : DecodedCommand) (l : List ℕ) → encodable c ≡ false → (encode_of c l).answer ≡ Err NotEncodable
 unfolding encode_of
 refuses c l p = rw p
 
@@ -136,7 +136,7 @@ refused c l = (
   λ none. go none (encodable c) refl,
 )
   where
-    go : NoneDecode c → (p : Bool) → encodable c ≡ p → (encode_of c l).answer ≡ Refused NotEncodable
+    go : NoneDecode c → (p : Bool) → encodable c ≡ p → (encode_of c l).answer ≡ Err NotEncodable
     go none true p = absurd (none (bytes_of c) (laid_twelve c) (encodable_back c p))
     go none false p = refuses c l p
 

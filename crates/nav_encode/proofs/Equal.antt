@@ -19,8 +19,7 @@ use Rattle.nav_command.specs.declared.Operand.{Operand}
 use Rattle.nav_command.specs.declared.Operand.TheVariants.{Absent, Immediate, Register}
 use Rattle.nav_command.specs.declared.DecodedCommand.{DecodedCommand}
 use Rattle.nav_command.specs.Laws.{sheet}
-use Rattle.nav_encode.specs.declared.Key.{Key}
-use Rattle.nav_encode.specs.Rules.{bit_of, key, group_key, operation_key, operand_key, same_key, same_flags, same}
+use Rattle.nav_encode.specs.Rules.{bit_of, Key, key, group_key, operation_key, operand_key, same_key, same_flags, same}
 
 left : (a b : Bool) → a && b ≡ true → a ≡ true
 left true b e = refl

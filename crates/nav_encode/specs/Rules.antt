@@ -1,10 +1,9 @@
 -- The twelve bytes of a command, whose ignored bits are zero (document 01, module 4). Assumes nothing.
-use Rattle.std.specs.Prelude.{Bool, true, false, cond, ◌&&◌, List, [], ◌∷◌, ◌++◌, ℕ, zero, suc, ◌+◌, ◌*◌, ◌/◌, ◌%◌, ◌<◌, ◌≡◌, eqb, leb, ltb, length}
+use Rattle.std.specs.Prelude.{Bool, true, false, cond, ◌&&◌, List, [], ◌∷◌, ◌++◌, ℕ, zero, suc, ◌+◌, ◌*◌, ◌/◌, ◌%◌, ◌<◌, ◌≡◌, eqb, leb, ltb, length, Err, Ok}
 use Rattle.std.specs.Int.Bits.{bit_and}
 use Rattle.laws.specs.Over.{over}
 use Rattle.error.specs.declared.Refusal.TheVariants.{NoRoom, NotEncodable}
-use Rattle.error.specs.declared.Verdict.{Verdict}
-use Rattle.error.specs.declared.Verdict.TheVariants.{Fine, Refused}
+use Rattle.error.specs.Rules.{Verdict}
 use Rattle.nav_command.specs.declared.BranchOp.{BranchOp}
 use Rattle.nav_command.specs.declared.BranchOp.TheVariants as B
 use Rattle.nav_command.specs.declared.Operation.{Operation}
@@ -17,7 +16,6 @@ use Rattle.nav_command.specs.declared.Operand.{Operand}
 use Rattle.nav_command.specs.declared.Operand.TheVariants.{Absent, Immediate, Register}
 use Rattle.nav_command.specs.declared.DecodedCommand.{DecodedCommand}
 use Rattle.nav_command.specs.Rules.{byte_at, count_of, group_bits, immediate1, immediate2, command_of, compare_number, set_number, system_number, number_of}
-use Rattle.nav_encode.specs.declared.Key.{Key}
 
 -- Twelve bytes.
 pub record Twelve (bytes : List ℕ) : Type 0 where
@@ -140,6 +138,11 @@ bytes_of c =
 
 -- Two commands are the same if all their fields are, each as numbers.
 
+pub record Key : Type 0 where
+  pub kind : ℕ
+  pub value : ℕ
+  pub more : ℕ
+
 abbrev pub key : ℕ → ℕ → ℕ → Key
 key k v m = record { kind = k; value = v; more = m }
 
@@ -192,5 +195,5 @@ encoding v l = record { answer = v; held = l }
 unfoldable pub encode_of : DecodedCommand → List ℕ → Encoding
 encode_of c l =
     cond (encodable c)
-    (cond (leb 12 (length l)) (encoding Fine (over l 0 (bytes_of c))) (encoding (Refused NoRoom) l))
-    (encoding (Refused NotEncodable) l)
+    (cond (leb 12 (length l)) (encoding (Ok tt) (over l 0 (bytes_of c))) (encoding (Err NoRoom) l))
+    (encoding (Err NotEncodable) l)

@@ -26,10 +26,10 @@ use Rattle.common.specs.Rules.{be4}
 use Rattle.common.specs.Laws.{be4_below}
 use Rattle.nav_command.specs.Rules.{byte_at, compares, branch_rows, set_rows, branch_of, compare_of, set_of, operation_of, group_of, operand_of, command_of, number_of}
 use Rattle.nav_list.specs.declared.Line.{Line}
-use Rattle.nav_list.specs.declared.Listed.TheVariants.{At, Refused}
 use Rattle.nav_list.specs.Rules.{unknown_text, head_text, immediate_text, general_text, tick_text, status_text, operand_text, second_text, operands_text, line_of, listing, list_of}
 use Rattle.nav_list.specs.Numbers.{head_by, operand_by, second_by, operands_by, line_by, Lines}
 use Rattle.nav_list.specs.Theorems.{LongestLine}
+use Rattle.std.specs.Prelude.{Err, Ok}
 
 -- texts of a list, each within a bound, which is computed
 
@@ -246,11 +246,11 @@ made {z} {m} {t} {l} {r} h w e =
 
 -- the ends of `list_line`
 
-pub no_room : (l t : List ℕ) (at : ℕ) → length l < at + length t → listing (Refused NoRoom) l ≡ list_of l at t
+pub no_room : (l t : List ℕ) (at : ℕ) → length l < at + length t → listing (Err NoRoom) l ≡ list_of l at t
 unfolding list_of
 no_room l t at h = rw (lt-leb (at + length t) (length l) h)
 
-pub room : (l m t : List ℕ) (at r : ℕ) → at + length t ≤ length l → Wrote l at t m r → listing (At r) m ≡ list_of l at t
+pub room : (l m t : List ℕ) (at r : ℕ) → at + length t ≤ length l → Wrote l at t m r → listing (Ok r) m ≡ list_of l at t
 unfolding list_of
 room l m t at r h w =
     let f = fitted w h in

@@ -1,5 +1,5 @@
 -- A command as a line of text (the Rust's `disassemble`). Assumes nothing.
-use Rattle.std.specs.Prelude.{Bool, true, false, cond, List, [], ◌++◌, ℕ, ◌+◌, leb, length, take, drop}
+use Rattle.std.specs.Prelude.{Bool, true, false, cond, List, [], ◌++◌, ℕ, ◌+◌, leb, length, take, drop, Err, Ok, Result}
 use Rattle.laws.specs.Over.{over}
 use Rattle.text.specs.Rules.{bytes, numeral}
 use Rattle.error.specs.declared.Refusal.TheVariants.{NoRoom}
@@ -11,8 +11,7 @@ use Rattle.nav_command.specs.declared.Operand.{Operand}
 use Rattle.nav_command.specs.declared.Operand.TheVariants.{Absent, Immediate, Register}
 use Rattle.nav_command.specs.declared.DecodedCommand.{DecodedCommand}
 use Rattle.nav_command.specs.Rules.{number_of, command_of}
-use Rattle.nav_list.specs.declared.Listed.{Listed}
-use Rattle.nav_list.specs.declared.Listed.TheVariants.{At, Refused}
+use Rattle.error.specs.declared.Refusal.{Refusal}
 
 unfoldable pub unknown_text : ℕ → ℕ → List ℕ
 unknown_text sub code = bytes "Unknown(sub_grp=" ++ (numeral 10 sub ++ (bytes ",sel=0x" ++ (numeral 16 code ++ bytes ")")))
@@ -65,12 +64,12 @@ line_at file from = line_of (command_of (take 12 (drop from file)))
 
 -- What listing into lent room answers and leaves: the place after the text, or refusal 5, and then nothing is altered.
 pub record Listing : Type 0 where
-  pub answer : Listed
+  pub answer : Result ℕ Refusal
   pub held : List ℕ
 
-abbrev pub listing : Listed → List ℕ → Listing
+abbrev pub listing : Result ℕ Refusal → List ℕ → Listing
 listing answer l = record { answer = answer; held = l }
 
 unfoldable pub list_of : List ℕ → ℕ → List ℕ → Listing
 list_of l at t =
-    cond (leb (at + length t) (length l)) (listing (At (at + length t)) (over l at t)) (listing (Refused NoRoom) l)
+    cond (leb (at + length t) (length l)) (listing (Ok (at + length t)) (over l at t)) (listing (Err NoRoom) l)

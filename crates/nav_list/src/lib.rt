@@ -3,7 +3,6 @@
 
 ghost use Rattle.std.specs.Prelude.{◌≡◌, ◌+◌, ◌≤◌, ◌<◌, length};
 ghost use Rattle.text.specs.Rules.{Wrote};
-ghost use Rattle.register_model.specs.Rules.{class_table};
 ghost use Rattle.nav_list.specs.Rules.{unknown_text, tick_text, status_text, line_of, line_at, listing, list_of};
 ghost use Rattle.nav_list.specs.Theorems.{LongestLine};
 ghost use Rattle.nav_list.specs.Numbers.{head_by, operand_by, line_by, Lines};
@@ -15,15 +14,8 @@ use nav_numbers::{Pair, Place, low_byte};
 // No line is longer, also of a command whose sub-group has three digits.
 const LONGEST: usize = 104;
 
-// The place after the text.
-#[derive(Drop)]
-pub enum Listed {
-    At(usize),
-    Refused(Refusal),
-}
-
 // A line by numbers: the operation and two operands.
-#[derive(Drop)]
+#[derive(Clone, Copy)]
 struct Line {
     head: Place,
     first: Pair,
@@ -34,9 +26,9 @@ fn put_unknown(out: &mut [u8], at: usize, sub: u8, code: u8) -> usize
     ensures { Wrote out.old at (unknown_text sub code) out.new result }
 {
     let p = text::put(out, at, b"Unknown(sub_grp=");
-    let q = text::put_decimal(out, p, sub as u16);
+    let q = text::put_decimal(out, p, u16::from(sub));
     let r = text::put(out, q, b",sel=0x");
-    let s = text::put_hex(out, r, code as u32);
+    let s = text::put_hex(out, r, u32::from(code));
     text::put(out, s, b")")
 }
 
@@ -44,89 +36,80 @@ fn put_head(out: &mut [u8], at: usize, head: Place) -> usize
     ensures { Wrote out.old at (head_by head.number head.sub head.code) out.new result }
 {
     if head.number == 0 {
-        return put_unknown(out, at, low_byte(head.sub), low_byte(head.code));
+        put_unknown(out, at, low_byte(head.sub), low_byte(head.code))
+    } else {
+        nav_names::put_mnemonic(out, at, low_byte(head.number))
     }
-    nav_names::put_mnemonic(out, at, low_byte(head.number))
 }
 
 fn put_tick(out: &mut [u8], at: usize, tick: bool) -> usize
     ensures { Wrote out.old at (tick_text tick) out.new result }
 {
-    if tick {
-        return text::put(out, at, b"'");
-    }
-    at
+    if tick { text::put(out, at, b"'") } else { at }
 }
 
-fn put_status(classes: &[u8], out: &mut [u8], at: usize, index: u16, tick: bool) -> usize
-    requires { classes.now ≡ class_table }
+fn put_status(out: &mut [u8], at: usize, index: u16, tick: bool) -> usize
     ensures { Wrote out.old at (status_text index tick) out.new result }
 {
     let p = text::put(out, at, b"PSR");
     let q = text::put_decimal(out, p, index);
     let r = put_tick(out, q, tick);
-    nav_names::put_name(classes, out, r, index)
+    nav_names::put_name(out, r, index)
 }
 
-fn put_operand(classes: &[u8], out: &mut [u8], at: usize, kind: u32, value: u32) -> usize
-    requires { (classes.now ≡ class_table) × (0 < kind) }
+fn put_operand(out: &mut [u8], at: usize, kind: u32, value: u32) -> usize
+    requires { 0 < kind }
     ensures { Wrote out.old at (operand_by kind value) out.new result }
 {
-    if kind == 1 {
-        let p = text::put(out, at, b"0x");
-        return text::put_hex(out, p, value);
-    }
     let index = (value % 65536) as u16;
-    if kind == 2 {
-        let p = text::put(out, at, b"r");
-        return text::put_decimal(out, p, index);
+    match kind {
+        1 => {
+            let p = text::put(out, at, b"0x");
+            text::put_hex(out, p, value)
+        }
+        2 => {
+            let p = text::put(out, at, b"r");
+            text::put_decimal(out, p, index)
+        }
+        3 => put_status(out, at, index, false),
+        _ => put_status(out, at, index, true),
     }
-    if kind == 3 {
-        return put_status(classes, out, at, index, false);
-    }
-    put_status(classes, out, at, index, true)
 }
 
-fn put_line(classes: &[u8], out: &mut [u8], at: usize, line: Line) -> usize
-    requires { classes.now ≡ class_table }
+fn put_line(out: &mut [u8], at: usize, line: Line) -> usize
     ensures { Wrote out.old at (line_by line) out.new result }
 {
-    let head = line.head;
-    let first = line.first;
-    let second = line.second;
+    let Line {
+        head,
+        first,
+        second,
+    } = line;
     let p = put_head(out, at, head);
     if first.kind == 0 {
         return p;
     }
     let a = text::put(out, p, b" ");
-    let q = put_operand(classes, out, a, first.kind, first.value);
+    let q = put_operand(out, a, first.kind, first.value);
     if second.kind == 0 {
         return q;
     }
     let b = text::put(out, q, b", ");
-    put_operand(classes, out, b, second.kind, second.value)
+    put_operand(out, b, second.kind, second.value)
 }
 
 // The numbers of a decoded command.
 fn line_of(command: DecodedCommand) -> Line
     ensures { Lines (line_of command) result }
 {
-    let operation = command.operation;
-    let operand1 = command.operand1;
-    let operand2 = command.operand2;
-    let number = nav_numbers::operation_number(operation);
-    let unknown = nav_numbers::unknown_of(operation);
-    let head = Place {
-        number,
-        sub: unknown.kind,
-        code: unknown.value,
-    };
-    let first = nav_numbers::operand_pair(operand1);
-    let second = nav_numbers::operand_pair(operand2);
+    let unknown = nav_numbers::unknown_of(command.operation);
     Line {
-        head,
-        first,
-        second,
+        head: Place {
+            number: nav_numbers::operation_number(command.operation),
+            sub: unknown.kind,
+            code: unknown.value,
+        },
+        first: nav_numbers::operand_pair(command.operand1),
+        second: nav_numbers::operand_pair(command.operand2),
     }
 }
 
@@ -155,57 +138,55 @@ fn line_at(file: &[u8], from: usize) -> Line
 }
 
 // A line from a place on, where it fits.
-fn list_line(line: Line, out: &mut [u8], at: usize) -> Listed
+fn list_line(line: Line, out: &mut [u8], at: usize) -> Result<usize, Refusal>
     requires { Lines (line_by line) line }
     ensures { listing result out.new ≡ list_of out.old at (line_by line) }
 {
-    if out.len() < at {
-        return Listed::Refused(Refusal::NoRoom);
+    let room = out.len().checked_sub(at).ok_or(Refusal::NoRoom)?;
+    if LONGEST <= room {
+        return Ok(put_line(out, at, line));
     }
-    let classes = register_model::classes();
-    if LONGEST <= out.len() - at {
-        return Listed::At(put_line(&classes, out, at, line));
+    let mut made = [0; 112];
+    let count = put_line(&mut made, 0, line);
+    if room < count {
+        Err(Refusal::NoRoom)
+    } else {
+        Ok(text::put(out, at, &made[..count]))
     }
-    let mut made = [0u8; 112];
-    let count = put_line(&classes, &mut made, 0, line);
-    if out.len() - at < count {
-        return Listed::Refused(Refusal::NoRoom);
-    }
-    Listed::At(text::put(out, at, &made[..count]))
 }
 
 // A command's line from a place on, and the place after it.
-pub fn list(command: DecodedCommand, out: &mut [u8], at: usize) -> Listed
+pub fn list(command: DecodedCommand, out: &mut [u8], at: usize) -> Result<usize, Refusal>
     ensures { listing result out.new ≡ list_of out.old at (line_of command) }
 {
     list_line(line_of(command), out, at)
 }
 
 // The same of the twelve bytes at a place of a file.
-pub fn list_at(file: &[u8], from: usize, out: &mut [u8], at: usize) -> Listed
+pub fn list_at(file: &[u8], from: usize, out: &mut [u8], at: usize) -> Result<usize, Refusal>
     requires { from + 12 ≤ length file.now }
     ensures { listing result out.new ≡ list_of out.old at (line_at file.now from) }
 {
     list_line(line_at(file, from), out, at)
 }
 
-// The line of the twelve bytes at a place of a file, for the listing of whole objects, which lends the class table.
-pub fn put_command(classes: &[u8], file: &[u8], from: usize, out: &mut [u8], at: usize) -> usize
-    requires { (classes.now ≡ class_table) × (from + 12 ≤ length file.now) }
+// The line of the twelve bytes at a place of a file, for the listing of whole objects.
+pub fn put_command(file: &[u8], from: usize, out: &mut [u8], at: usize) -> usize
+    requires { from + 12 ≤ length file.now }
     ensures { Wrote out.old at (line_at file.now from) out.new result }
 {
-    let mut line = [0u8; 112];
-    let count = put_line(classes, &mut line, 0, line_at(file, from));
+    let mut line = [0; 112];
+    let count = put_line(&mut line, 0, line_at(file, from));
     text::put(out, at, &line[..count])
 }
 
 // How long that line is.
-pub fn command_length(classes: &[u8], file: &[u8], from: usize) -> usize
-    requires { (classes.now ≡ class_table) × (from + 12 ≤ length file.now) }
+pub fn command_length(file: &[u8], from: usize) -> usize
+    requires { from + 12 ≤ length file.now }
     ensures { result ≡ length (line_at file.now from) }
 {
-    let mut line = [0u8; 112];
-    put_line(classes, &mut line, 0, line_at(file, from))
+    let mut line = [0; 112];
+    put_line(&mut line, 0, line_at(file, from))
 }
 
 // A line has at most 102 bytes.

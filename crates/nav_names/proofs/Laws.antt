@@ -5,17 +5,18 @@ use mathlib.Core.List.{List, [], ◌∷◌}
 use Prim.Native.Nat.{ℕ, zero, suc, ◌+◌, ◌≤◌, ◌<◌}
 use Prim.Native.String.{String}
 use native.Mathlib.Omega.{arith}
-use lib.Dec.{eqb, leb}
+use lib.Dec.{eqb, leb, ltb}
 use lib.ListN.{length, get_or, get_or-eq_default}
-use borrow.Author.Tests.{eqb-true, le-leb, lt-leb, leb-true}
+use borrow.Author.Tests.{eqb-true, le-leb, lt-leb, leb-true, ltb-true, ltb-false}
+use Rattle.laws.specs.Cases.{by_test}
 use Rattle.laws.specs.Table.{listed, at}
 use Rattle.text.specs.Rules.{bytes}
 use Rattle.register_model.specs.declared.PsrClass.{PsrClass}
 use Rattle.register_model.specs.declared.PsrClass.TheVariants.{PlaybackStatus, PlayerSetting, Reserved}
-use Rattle.register_model.specs.Rules.{class_of, class_number, class_table}
-use Rattle.register_model.specs.Laws.{table_at, table_length}
+use Rattle.register_model.specs.Rules.{class_of, class_at}
+use Rattle.std.specs.Prelude.{Option, Some, None}
 use Rattle.register_model.specs.Names.{name_of, reserved}
-use Rattle.nav_names.specs.Rules.{mnemonics, mnemonic, name_text}
+use Rattle.nav_names.specs.Rules.{mnemonics, mnemonic, name_text, unnamed}
 
 -- past the sheet there is no name
 pub no_mnemonic : (n : ℕ) → 47 < n → mnemonic n ≡ []
@@ -89,18 +90,7 @@ shared i (l, h, r) none =
     let n : name_of i ≡ "CharacteristicTextCapability" = rw (le-leb 32 i l, r) at f in
     rw (r, n)
 
--- The class table decides whether a register has a name.
-
-is_reserved : (k : PsrClass) → class_number k ≡ 3 → reserved k ≡ true
-is_reserved (PlaybackStatus false) e = absurd (omega arith)
-is_reserved (PlaybackStatus true) e = absurd (omega arith)
-is_reserved PlayerSetting e = absurd (omega arith)
-is_reserved Reserved e = refl
-
-not_reserved : (k : PsrClass) → (class_number k ≡ 3 → ⊥) → reserved k ≡ false
-not_reserved (PlaybackStatus only) ne = refl
-not_reserved PlayerSetting ne = refl
-not_reserved Reserved ne = absurd (ne refl)
+-- The class of a register decides whether it has a name.
 
 pub beyond : (i : ℕ) → 62 ≤ i → reserved (class_of i) ≡ true
 unfolding class_of
@@ -110,21 +100,13 @@ pub no_name : (i : ℕ) → reserved (class_of i) ≡ true → name_text i ≡ [
 unfolding name_text
 no_name i e = rw e
 
-module _ (t : List ℕ) (i : ℕ) (e : t ≡ class_table) where
-  long : length t ≡ 128
-  long = ap length e ∙ table_length
+told : (i : ℕ) → unnamed (class_at i) ≡ reserved (class_of i)
+unfolding class_at
+told i = by_test (ltb i 128) (λ h. rw h) (λ h. rw (h, beyond i (omega (arith, ltb-false i 128 h))))
 
-  class_at_is : i < length t → get_or t i 0 ≡ class_number (class_of i)
-  class_at_is h = ap (λ (x : List ℕ). get_or x i 0) e ∙ table_at i (omega (arith, long))
+-- by the class that a register has, or none
+pub class_told : (i : ℕ) (k : Option PsrClass) (b : Bool) → k ≡ class_at i → b ≡ unnamed k → reserved (class_of i) ≡ b
+class_told i k b e h = sym (told i) ∙ ap unnamed (sym e) ∙ sym h
 
-  pub below : i < length t → i < 128
-  below h = omega (arith, long)
-
-  pub nameless : i < length t → get_or t i 0 ≡ 3 → name_text i ≡ []
-  nameless h q = no_name i (is_reserved (class_of i) (sym (class_at_is h) ∙ q))
-
-  pub has_name : i < length t → (get_or t i 0 ≡ 3 → ⊥) → reserved (class_of i) ≡ false
-  has_name h ne = not_reserved (class_of i) (λ q. ne (class_at_is h ∙ q))
-
-  pub past_all : length t ≤ i → name_text i ≡ []
-  past_all h = no_name i (beyond i (omega (arith, long)))
+pub named_below : (i : ℕ) → reserved (class_of i) ≡ false → i < 128
+named_below i e = by_test (ltb i 128) (λ h. ltb-true i 128 h) (λ h. let z : true ≡ false = sym (beyond i (omega (arith, ltb-false i 128 h))) ∙ e in let y : ◌≡◌ {A = ℕ} 0 1 = cc in absurd (omega arith))

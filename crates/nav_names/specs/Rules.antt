@@ -1,5 +1,6 @@
 -- The names of operations and of status registers, as they are listed. Assumes nothing.
-use Rattle.std.specs.Prelude.{cond, List, [], ◌∷◌, ◌++◌, ℕ, get_or}
+use Rattle.std.specs.Prelude.{Bool, true, Option, Some, None, cond, List, [], ◌∷◌, ◌++◌, ℕ, get_or}
+use Rattle.register_model.specs.declared.PsrClass.{PsrClass}
 use Prim.Native.String.{String}
 use Rattle.text.specs.Rules.{bytes}
 use Rattle.register_model.specs.Rules.{class_of}
@@ -23,3 +24,8 @@ mnemonic number = bytes (get_or mnemonics number "")
 -- A status register is followed by its name, unless it is reserved; from 128 on all are.
 unfoldable pub name_text : ℕ → List ℕ
 name_text i = cond (reserved (class_of i)) [] (bytes "(" ++ (bytes (name_of i) ++ bytes ")"))
+
+-- Whether a register has no name, by the class that it has.
+abbrev pub unnamed : Option PsrClass → Bool
+unnamed None = true
+unnamed (Some k) = reserved k

@@ -3,11 +3,14 @@
 
 ghost use Rattle.std.specs.Prelude.{◌≡◌, false, ◌≤◌, ◌<◌};
 ghost use Rattle.text.specs.Rules.{Wrote};
-ghost use Rattle.register_model.specs.Rules.{class_table, class_of};
+ghost use Rattle.register_model.specs.Rules.{class_of};
 ghost use Rattle.register_model.specs.Names.{reserved};
-ghost use Rattle.nav_names.specs.Rules.{mnemonic, name_text};
+ghost use Rattle.nav_names.specs.Rules.{mnemonic, name_text, unnamed};
+
+use register_model::PsrClass;
 
 // Operations by their numbers, a row or a part of one a function, so that proofs stay small; the compiler makes one jump of all.
+// No table of texts: which text a place of a table of references lends is not told in its proof.
 fn put_still(out: &mut [u8], at: usize, number: u8) -> usize
     requires { 43 ≤ number }
     ensures { Wrote out.old at (mnemonic number) out.new result }
@@ -132,9 +135,10 @@ pub fn put_mnemonic(out: &mut [u8], at: usize, number: u8) -> usize
     ensures { Wrote out.old at (mnemonic number) out.new result }
 {
     if number == 0 {
-        return at;
+        at
+    } else {
+        put_goto(out, at, number)
     }
-    put_goto(out, at, number)
 }
 
 // Status registers that are not reserved, in the same way; from 48 on they share a name.
@@ -206,17 +210,24 @@ fn put_playback(out: &mut [u8], at: usize, index: u16) -> usize
     }
 }
 
-// The name of a status register, if it has one: its class decides, by the lent class table.
-pub fn put_name(classes: &[u8], out: &mut [u8], at: usize, index: u16) -> usize
-    requires { classes.now ≡ class_table }
+// Whether registers of a class have names; a register that there is none of has none.
+fn is_reserved(class: Option<PsrClass>) -> bool
+    ensures { result ≡ unnamed class }
+{
+    match class {
+        None | Some(PsrClass::Reserved) => true,
+        Some(_) => false,
+    }
+}
+
+// The name of a status register, if it has one: its class decides.
+#[tactic(auto, using(crate::proofs::Laws::class_told, crate::proofs::Laws::no_name, crate::proofs::Laws::named_below, text::specs::Laws::nothing))]
+pub fn put_name(out: &mut [u8], at: usize, index: u16) -> usize
     ensures { Wrote out.old at (name_text index) out.new result }
 {
-    let i = index as usize;
-    if i < classes.len() {
-        if classes[i] == 3 {
-            return at;
-        }
-        return put_playback(out, at, index);
+    if is_reserved(register_model::psr_class(index)) {
+        at
+    } else {
+        put_playback(out, at, index)
     }
-    at
 }

@@ -28,7 +28,7 @@ use Rattle.nav_command.specs.declared.Operation.{Operation}
 use Rattle.nav_command.specs.declared.Operation.TheVariants.{Branch, Compare, Set, System, Unknown}
 use Rattle.nav_command.specs.declared.RegisterBank.TheVariants.{Gpr, Psr, PsrSecondary}
 use Rattle.nav_command.specs.Rules.{compares, sets, systems, number_of}
-use Rattle.nav_command.proofs.Laws.{named, named_1, unnamed}
+use Rattle.nav_numbers.proofs.Named.{named, named_1, unnamed}
 use Rattle.nav_numbers.specs.Rules.{flag_number, unknown_of, group_pair, operand_pair, command_numbers, group_named, operand_named, branches, sheet_named, operation_named, command_named, same_at, is_command}
 use Rattle.nav_numbers.specs.Theorems.{small, Typed, Named}
 
@@ -39,7 +39,7 @@ module _ (n : ℕ) (other : Operation) where
   unfolding sheet_named
   sheet_none h = rw h
 
-  pub sheet_branch : (a : BranchOp) → (n ≡ 0 → ⊥) → n ≤ 14 → Branch (get_or branches (n - 1) a) ≡ sheet_named n other
+  pub sheet_branch : (a : BranchOp) → 0 < n → n ≤ 14 → Branch (get_or branches (n - 1) a) ≡ sheet_named n other
   unfolding sheet_named
   sheet_branch a p h = rw (le-leb n 14 h) (named_1 Branch branches n a other p h)
 

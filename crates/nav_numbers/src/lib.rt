@@ -15,14 +15,15 @@ use nav_command::{
 };
 
 // A kind and its value: of a group, an operand, an option.
-#[derive(Drop)]
+// A number for the kind, since a command goes to C and back as thirteen numbers (`command_numbers`).
+#[derive(Clone, Copy)]
 pub struct Pair {
     pub kind: u32,
     pub value: u32,
 }
 
 // An operation: its place on the sheet, and the sub-group and code of one that has none.
-#[derive(Drop)]
+#[derive(Clone, Copy)]
 pub struct Place {
     pub number: u32,
     pub sub: u32,
@@ -30,7 +31,7 @@ pub struct Place {
 }
 
 // A row of the sheet: how many operations, and the number of the first.
-#[derive(Drop)]
+#[derive(Clone, Copy)]
 struct Row {
     pub count: u32,
     pub first: u32,
@@ -41,7 +42,7 @@ struct Row {
 pub fn flag_number(flag: bool) -> u32
     ensures { result ≡ flag_number flag }
 {
-    if flag { 1 } else { 0 }
+    u32::from(flag)
 }
 
 pub fn pair_of(a: u32, b: u32) -> Pair
@@ -54,10 +55,10 @@ pub fn operation_number(operation: Operation) -> u32
     ensures { result ≡ number_of operation }
 {
     match operation {
-        Operation::Branch(op) => nav_encode::branch_number(op) as u32,
-        Operation::Compare(op) => 14 + nav_encode::compare_number(op) as u32,
-        Operation::Set(op) => 21 + nav_encode::set_number(op) as u32,
-        Operation::System(op) => 36 + nav_encode::system_number(op) as u32,
+        Operation::Branch(op) => u32::from(nav_encode::branch_number(op)),
+        Operation::Compare(op) => 14 + u32::from(nav_encode::compare_number(op)),
+        Operation::Set(op) => 21 + u32::from(nav_encode::set_number(op)),
+        Operation::System(op) => 36 + u32::from(nav_encode::system_number(op)),
         Operation::Unknown {
             sub_grp: _,
             selector: _,
@@ -69,11 +70,12 @@ pub fn unknown_of(operation: Operation) -> Pair
     ensures { (result ≡ unknown_of operation) × (result.kind < 256) × (result.value < 256) }
 {
     match operation {
-        Operation::Branch(_) => pair_of(0, 0),
-        Operation::Compare(_) => pair_of(0, 0),
-        Operation::Set(_) => pair_of(0, 0),
-        Operation::System(_) => pair_of(0, 0),
-        Operation::Unknown { sub_grp, selector } => pair_of(sub_grp as u32, selector as u32),
+        Operation::Branch(_) | Operation::Compare(_) | Operation::Set(_) | Operation::System(_) =>
+            pair_of(0, 0),
+        Operation::Unknown { sub_grp, selector } => pair_of(
+            u32::from(sub_grp),
+            u32::from(selector),
+        ),
     }
 }
 
@@ -84,7 +86,7 @@ fn group_pair(group: CommandGroup) -> Pair
         CommandGroup::Branch => pair_of(0, 0),
         CommandGroup::Compare => pair_of(1, 0),
         CommandGroup::Set => pair_of(2, 0),
-        CommandGroup::Reserved(bits) => pair_of(3, bits as u32),
+        CommandGroup::Reserved(bits) => pair_of(3, u32::from(bits)),
     }
 }
 
@@ -104,30 +106,25 @@ pub fn operand_pair(operand: Operand) -> Pair
     match operand {
         Operand::Absent => pair_of(0, 0),
         Operand::Immediate(value) => pair_of(1, value),
-        Operand::Register { bank, index } => pair_of(bank_kind(bank), index as u32),
+        Operand::Register { bank, index } => pair_of(bank_kind(bank), u32::from(index)),
     }
 }
 
 fn command_numbers(command: DecodedCommand) -> [u32; 13]
     ensures { result ≡ command_numbers command }
 {
-    let group = command.group;
-    let operation = command.operation;
-    let operand1 = command.operand1;
-    let operand2 = command.operand2;
-    let g = group_pair(group);
-    let number = operation_number(operation);
-    let unknown = unknown_of(operation);
-    let a = operand_pair(operand1);
-    let b = operand_pair(operand2);
+    let group = group_pair(command.group);
+    let unknown = unknown_of(command.operation);
+    let a = operand_pair(command.operand1);
+    let b = operand_pair(command.operand2);
     [
-        command.operand_count as u32,
-        g.kind,
-        g.value,
-        command.sub_group as u32,
+        u32::from(command.operand_count),
+        group.kind,
+        group.value,
+        u32::from(command.sub_group),
         flag_number(command.imm_op1),
         flag_number(command.imm_op2),
-        number,
+        operation_number(command.operation),
         unknown.kind,
         unknown.value,
         a.kind,
@@ -146,19 +143,14 @@ fn either(test: bool, yes: u32, no: u32) -> u32
     if test { yes } else { no }
 }
 
-fn wide(byte: u8) -> u32
-    ensures { result ≡ byte }
-{
-    byte as u32
-}
-
 fn row_of(count: u32, first: u32) -> Row
     ensures { result ≡ row_of count first }
 {
     Row { count, first }
 }
 
-// The row that group and sub-group name, the low five bits of the first byte; each has its arm, which makes a table of them.
+// The row that group and sub-group name, the low five bits of the first byte.
+// Each has its arm, which makes a table of them, so that no branch depends on the command (docs/BENCHMARKS.md).
 fn row_at(low: u8) -> Row
     ensures { Numbered (row_in (group_of (low / 8)) (low % 8)) result }
 {
@@ -203,25 +195,27 @@ fn row_at(low: u8) -> Row
 fn from_one(code: u8) -> u32
     ensures { result ≡ (code + 255) % 256 }
 {
-    (wide(code) + 255) % 256
+    (u32::from(code) + 255) % 256
 }
 
 // The operation at a place in a row; past its end it is unknown.
+#[tactic(auto, using(std::proofs::lemmas::Bool::Decides::nat_tests), unfolding(crate::specs::Pieces::row_place))]
 fn placed(at: u32, row: Row, sub: u32, code: u32) -> Place
     requires { row.first + row.count ≤ 48 }
     ensures { result ≡ row_place at row.count row.first sub code }
 {
     if at < row.count {
-        return Place {
+        Place {
             number: row.first + at,
             sub: 0,
             code: 0,
-        };
-    }
-    Place {
-        number: 0,
-        sub,
-        code,
+        }
+    } else {
+        Place {
+            number: 0,
+            sub,
+            code,
+        }
     }
 }
 
@@ -229,25 +223,25 @@ pub fn operation_at(low: u8, option: u8, compare: u8, set: u8) -> Place
     ensures { result ≡ place_of (operation_of (group_of (low / 8)) (low % 8) option compare set) }
 {
     let group = low / 8;
-    let sub = wide(low % 8);
+    let sub = u32::from(low % 8);
     let row = row_at(low);
-    let other = either(group == 1, wide(compare), wide(set));
-    let code = either(group == 0, wide(option), other);
+    let other = either(group == 1, u32::from(compare), u32::from(set));
+    let code = either(group == 0, u32::from(option), other);
     let after = either(group == 1, from_one(compare), from_one(set));
-    let at = either(group == 0, wide(option), after);
+    let at = either(group == 0, u32::from(option), after);
     placed(at, row, sub, code)
 }
 
 fn group_kind(bits: u8) -> u32
     ensures { result ≡ (group_pair (group_of bits)).kind }
 {
-    either(bits < 3, wide(bits), 3)
+    either(bits < 3, u32::from(bits), 3)
 }
 
 fn group_value(bits: u8) -> u32
     ensures { result ≡ (group_pair (group_of bits)).value }
 {
-    either(bits < 3, 0, wide(bits))
+    either(bits < 3, 0, u32::from(bits))
 }
 
 fn operand_kind(there: bool, immediate: bool, word: u32) -> u32
@@ -290,10 +284,10 @@ pub fn numbers_of(bytes: &[u8; 12]) -> [u32; 13]
     let a = operand_at(count >= 1, immediate1, common::be32(bytes, 4));
     let b = operand_at(count >= 2, immediate2, common::be32(bytes, 8));
     [
-        wide(count),
+        u32::from(count),
         group_kind(bits),
         group_value(bits),
-        wide(head % 8),
+        u32::from(head % 8),
         flag_number(immediate1),
         flag_number(immediate2),
         operation.number,
@@ -318,6 +312,7 @@ fn low_half(number: u32) -> u16
     (number % 65536) as u16
 }
 
+#[tactic(auto, using(std::proofs::lemmas::Bool::Decides::nat_tests), unfolding(crate::specs::Rules::group_named))]
 fn group_named(kind: u32, bits: u32) -> CommandGroup
     ensures { result ≡ group_named kind bits }
 {
@@ -332,10 +327,13 @@ fn group_named(kind: u32, bits: u32) -> CommandGroup
 fn register(bank: RegisterBank, number: u32) -> Operand
     ensures { result ≡ Operand.Register bank (number % 65536) }
 {
-    let index = low_half(number);
-    Operand::Register { bank, index }
+    Operand::Register {
+        bank,
+        index: low_half(number),
+    }
 }
 
+#[tactic(auto, using(std::proofs::lemmas::Bool::Decides::nat_tests), unfolding(crate::specs::Rules::operand_named))]
 fn operand_named(kind: u32, value: u32) -> Operand
     ensures { result ≡ operand_named kind value }
 {
@@ -354,34 +352,23 @@ fn sheet_named(number: u32, other: Operation) -> Operation
     ensures { result ≡ sheet_named number other }
 {
     let at = number as usize;
-    if at == 0 {
-        return other;
+    match at {
+        1..=14 => Operation::Branch(BRANCHES[at - 1]),
+        15..=21 => Operation::Compare(COMPARES[at - 15]),
+        22..=36 => Operation::Set(SETS[at - 22]),
+        37..=47 => Operation::System(SYSTEMS[at - 37]),
+        _ => other,
     }
-    if at <= 14 {
-        let op = BRANCHES[at - 1];
-        return Operation::Branch(op);
-    }
-    if at <= 21 {
-        let op = COMPARES[at - 15];
-        return Operation::Compare(op);
-    }
-    if at <= 36 {
-        let op = SETS[at - 22];
-        return Operation::Set(op);
-    }
-    if at <= 47 {
-        let op = SYSTEMS[at - 37];
-        return Operation::System(op);
-    }
-    other
 }
 
 fn operation_named(number: u32, sub: u32, code: u32) -> Operation
     ensures { result ≡ operation_named number sub code }
 {
-    let sub_grp = low_byte(sub);
-    let selector = low_byte(code);
-    sheet_named(number, Operation::Unknown { sub_grp, selector })
+    let other = Operation::Unknown {
+        sub_grp: low_byte(sub),
+        selector: low_byte(code),
+    };
+    sheet_named(number, other)
 }
 
 // The command that numbers name, each cut to its field's width.
@@ -411,11 +398,8 @@ pub fn command_named(numbers: &[u32]) -> DecodedCommand
 fn same(a: &[u32; 13], b: &[u32]) -> bool
     ensures { result ≡ all (same_at a.now b.now) 13 }
 {
-    let mut k = 0;
-    while k < 13 {
-        if number_at(a, k) == number_at(b, k) {
-            k += 1;
-        } else {
+    for (k, number) in a.iter().enumerate() {
+        if *number != number_at(b, k) {
             return false;
         }
     }

@@ -1,5 +1,5 @@
 -- Examples of the numbers of answers and of sessions (include/mescjadro.h gives the number and values of every case). Assumes nothing.
-use Rattle.std.specs.Prelude.{◌≡◌, refl, true, false, [], ◌∷◌}
+use Rattle.std.specs.Prelude.{◌≡◌, refl, true, false, [], ◌∷◌, Err, None, Ok, Some}
 use Rattle.nav_command.specs.declared.SystemOp.TheVariants.{PopUpOff}
 use Rattle.nav_command.specs.declared.Operation.TheVariants.{System, Unknown}
 use Rattle.vm.specs.declared.NavRequest.{NavRequest}
@@ -7,7 +7,6 @@ use Rattle.vm.specs.declared.NavRequest.TheVariants.{JumpTitle, PlayPlayListAtMa
 use Rattle.vm.specs.declared.Step.TheVariants.{Skipped, Branch}
 use Rattle.session.specs.Rules.{session, defaults}
 use Rattle.mobj_runner.specs.declared.RunOutcome.TheVariants as R
-use Rattle.nav_driver.specs.declared.Option32.TheVariants.{None, Some}
 use Rattle.nav_driver.specs.declared.DriveOutcome.{DriveOutcome}
 use Rattle.nav_driver.specs.declared.DriveOutcome.TheVariants as D
 use Rattle.disc_check.specs.declared.DiscCheck.TheVariants.{Passed, Offends}
@@ -54,10 +53,10 @@ full_objects : run_numbers R.ObjectStackFull ≡ 6 ∷ 0 ∷ 0 ∷ 0 ∷ 0 ∷ 0
 full_objects = refl
 
 -- The disc check: 0, 0, 0 if no command offends; else 1, and the object and the command of the first.
-passed : check_numbers Passed ≡ 0 ∷ 0 ∷ 0 ∷ []
+passed : check_numbers (Ok Passed) ≡ 0 ∷ 0 ∷ 0 ∷ []
 passed = refl
 
-offends : check_numbers (Offends 3 8) ≡ 1 ∷ 3 ∷ 8 ∷ []
+offends : check_numbers (Ok (Offends 3 8)) ≡ 1 ∷ 3 ∷ 8 ∷ []
 offends = refl
 
 -- A session: entry, object, pc, object frames live, title frames live, pending.

@@ -12,12 +12,11 @@ use Rattle.mobj_runner.specs.declared.RunOutcome.{RunOutcome}
 use Rattle.mobj_runner.specs.declared.RunOutcome.TheVariants as R
 use Rattle.nav_driver.specs.declared.DriveOutcome.{DriveOutcome}
 use Rattle.nav_driver.specs.declared.DriveOutcome.TheVariants as D
-use Rattle.nav_driver.specs.declared.Option32.{Option32}
-use Rattle.nav_driver.specs.declared.Option32.TheVariants.{None, Some}
 use Rattle.nav_driver.specs.declared.PlayRequest.{PlayRequest}
 use Rattle.numbers.specs.declared.Request.{Request}
 use Rattle.numbers.specs.Rules.{request, request_of, option_of, run_numbers, drive_numbers}
 use Rattle.numbers.specs.Apart.{Made, MadeDrive, MadeRun, ToldApart}
+use Rattle.std.specs.Prelude.{None, Option, Some}
 
 -- ---- requests
 
@@ -80,15 +79,15 @@ requests a b m n e = sym (request_back a m) ∙ ap request_from e ∙ request_ba
 
 -- ---- outcomes
 
-option_from : ℕ → ℕ → Option32
+option_from : ℕ → ℕ → Option ℕ
 option_from kind n = get_or (None ∷ Some n ∷ []) kind None
 
-option_back : (o : Option32) → option_from (option_of o).kind (option_of o).value ≡ o
+option_back : (o : Option ℕ) → option_from (option_of o).kind (option_of o).value ≡ o
 unfolding option_from
 option_back None = refl
 option_back (Some n) = refl
 
-abbrev play : ℕ → Option32 → Option32 → PlayRequest
+abbrev play : ℕ → Option ℕ → Option ℕ → PlayRequest
 play p item mark = record { playlist = p; play_item = item; mark = mark }
 
 drive_row : List ℕ → List DriveOutcome
@@ -110,8 +109,8 @@ drive_back : (o : DriveOutcome) → MadeDrive o → drive_from (drive_numbers o)
 unfolding drive_from drive_row
 drive_back D.Finished m = refl
 drive_back (D.Play p) m =
-    ap (λ (i : Option32). D.Play (play p.playlist i (option_from (option_of p.mark).kind (option_of p.mark).value))) (option_back p.play_item)
-    ∙ ap (λ (k : Option32). D.Play (play p.playlist p.play_item k)) (option_back p.mark)
+    ap (λ (i : Option ℕ). D.Play (play p.playlist i (option_from (option_of p.mark).kind (option_of p.mark).value))) (option_back p.play_item)
+    ∙ ap (λ (k : Option ℕ). D.Play (play p.playlist p.play_item k)) (option_back p.mark)
 drive_back (D.Request q) m = ap D.Request (request_back q m)
 drive_back (D.BadTitle t) m = refl
 drive_back (D.BadObject o) m = refl

@@ -1,5 +1,5 @@
 -- The numbers of answers and sessions (document 01: "this paper's number and values for every case"). Assumes nothing.
-use Rattle.std.specs.Prelude.{not, List, [], ◌∷◌, ℕ, eqb, get_or}
+use Rattle.std.specs.Prelude.{not, List, [], ◌∷◌, ℕ, eqb, get_or, Err, None, Ok, Option, Result, Some}
 use Rattle.error.specs.Rules.{number_of as refusalNumber}
 use Rattle.nav_command.specs.declared.BranchOp.{BranchOp}
 use Rattle.nav_command.specs.declared.BranchOp.TheVariants as B
@@ -15,14 +15,13 @@ use Rattle.mobj_runner.specs.declared.RunOutcome.{RunOutcome}
 use Rattle.mobj_runner.specs.declared.RunOutcome.TheVariants as R
 use Rattle.nav_driver.specs.declared.DriveOutcome.{DriveOutcome}
 use Rattle.nav_driver.specs.declared.DriveOutcome.TheVariants as D
-use Rattle.nav_driver.specs.declared.Option32.{Option32}
-use Rattle.nav_driver.specs.declared.Option32.TheVariants.{None, Some}
 use Rattle.disc_check.specs.declared.DiscCheck.{DiscCheck}
 use Rattle.disc_check.specs.declared.DiscCheck.TheVariants as C
 use Rattle.session.specs.declared.Session.{Session}
 use Rattle.session.specs.declared.Budgets.{Budgets}
 use Rattle.session.specs.Rules.{session}
 use Rattle.numbers.specs.declared.Request.{Request}
+use Rattle.error.specs.declared.Refusal.{Refusal}
 
 -- ---- requests
 
@@ -70,7 +69,7 @@ abbrev pub requesting : Request → List ℕ
 requesting q = 2 ∷ q.op ∷ q.first ∷ q.second ∷ q.code ∷ 0 ∷ []
 
 -- 1 with what is given, or 0 and 0
-abbrev pub option_of : Option32 → Pair
+abbrev pub option_of : Option ℕ → Pair
 option_of None = pair 0 0
 option_of (Some n) = pair 1 n
 
@@ -96,10 +95,10 @@ run_numbers R.ObjectStackFull = bare 6
 
 -- ---- the disc check: passed, or the first offending object and command, or refused
 
-abbrev pub check_numbers : DiscCheck → List ℕ
-check_numbers C.Passed = 0 ∷ 0 ∷ 0 ∷ []
-check_numbers (C.Offends o k) = 1 ∷ o ∷ k ∷ []
-check_numbers (C.Refused r) = 2 ∷ refusalNumber r ∷ 0 ∷ []
+abbrev pub check_numbers : Result DiscCheck Refusal → List ℕ
+check_numbers (Ok C.Passed) = 0 ∷ 0 ∷ 0 ∷ []
+check_numbers (Ok (C.Offends o k)) = 1 ∷ o ∷ k ∷ []
+check_numbers (Err r) = 2 ∷ refusalNumber r ∷ 0 ∷ []
 
 -- ---- a session: entry, object, pc, object depth, title depth, pending; and back, where any number but 0 is pending
 

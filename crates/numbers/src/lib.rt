@@ -9,9 +9,10 @@ ghost use Rattle.numbers.specs.Apart.{ToldApart};
 
 use common::number_at;
 use disc_check::DiscCheck;
+use error::Refusal;
 use mobj_runner::RunOutcome;
 use nav_command::Operation;
-use nav_driver::{DriveOutcome, Option32, PlayRequest};
+use nav_driver::{DriveOutcome, PlayRequest};
 use nav_numbers::{Pair, flag_number, operation_number, pair_of, unknown_of};
 use session::{Budgets, Session};
 use vm::{NavRequest, Step};
@@ -41,13 +42,11 @@ fn asking(number: u32, a: u32, b: u32) -> Request
 fn system_request(operation: Operation, a: u32, b: u32) -> Request
     ensures { result ≡ request (number_of operation) a b (unknown_of operation).value }
 {
-    let number = operation_number(operation);
-    let unknown = unknown_of(operation);
     Request {
-        op: number,
+        op: operation_number(operation),
         first: a,
         second: b,
-        code: unknown.value,
+        code: unknown_of(operation).value,
     }
 }
 
@@ -105,23 +104,21 @@ fn request_numbers(asked: NavRequest) -> [u32; 6]
     [2, q.op, q.first, q.second, q.code, 0]
 }
 
-fn option_pair(option: Option32) -> Pair
+fn option_pair(option: Option<u32>) -> Pair
     ensures { result ≡ option_of option }
 {
     match option {
-        Option32::None => pair_of(0, 0),
-        Option32::Some(number) => pair_of(1, number),
+        None => pair_of(0, 0),
+        Some(number) => pair_of(1, number),
     }
 }
 
 fn play_numbers(p: PlayRequest) -> [u32; 6]
     ensures { result ≡ playing p.playlist (option_of p.play_item) (option_of p.mark) }
 {
-    let item = p.play_item;
-    let mark = p.mark;
-    let a = option_pair(item);
-    let b = option_pair(mark);
-    [1, p.playlist, a.kind, a.value, b.kind, b.value]
+    let item = option_pair(p.play_item);
+    let mark = option_pair(p.mark);
+    [1, p.playlist, item.kind, item.value, mark.kind, mark.value]
 }
 
 // The driver's outcome.
@@ -153,13 +150,13 @@ pub fn run_numbers(outcome: RunOutcome) -> [u32; 6]
     }
 }
 
-pub fn check_numbers(found: DiscCheck) -> [u32; 3]
+pub fn check_numbers(found: Result<DiscCheck, Refusal>) -> [u32; 3]
     ensures { result ≡ check_numbers found }
 {
     match found {
-        DiscCheck::Passed => [0, 0, 0],
-        DiscCheck::Offends { object, command } => [1, object, command],
-        DiscCheck::Refused(why) => [2, lent::refused(why), 0],
+        Ok(DiscCheck::Passed) => [0, 0, 0],
+        Ok(DiscCheck::Offends { object, command }) => [1, object, command],
+        Err(why) => [2, lent::refused(why), 0],
     }
 }
 
@@ -168,8 +165,14 @@ pub fn check_numbers(found: DiscCheck) -> [u32; 3]
 pub fn session_numbers(s: Session) -> [u32; 6]
     ensures { result ≡ session_numbers s }
 {
-    let pending = flag_number(s.pending);
-    [s.entry, s.object, s.pc, s.odepth, s.tdepth, pending]
+    [
+        s.entry,
+        s.object,
+        s.pc,
+        s.odepth,
+        s.tdepth,
+        flag_number(s.pending),
+    ]
 }
 
 // The session's numbers into an array that has room for just them.
@@ -177,22 +180,20 @@ pub fn put_session(s: Session, session: &mut [u32])
     requires { length session.old ≡ 6 }
     ensures { session.new ≡ session_numbers s }
 {
-    let found = session_numbers(s);
-    lent::put(session, &found);
+    lent::put(session, &session_numbers(s));
 }
 
 // Any number but 0 is pending.
 pub fn session_of(numbers: &[u32]) -> Session
     ensures { result ≡ session_of numbers.now }
 {
-    let pending = number_at(numbers, 5);
     Session {
         entry: number_at(numbers, 0),
         object: number_at(numbers, 1),
         pc: number_at(numbers, 2),
         odepth: number_at(numbers, 3),
         tdepth: number_at(numbers, 4),
-        pending: pending != 0,
+        pending: number_at(numbers, 5) != 0,
     }
 }
 

@@ -1,16 +1,14 @@
 -- What the calls for C of banks, sessions, budgets and the machine hand back and leave, by `numbers`; a refusal alters nothing. Assumes nothing.
-use Rattle.std.specs.Prelude.{List, [], ◌∷◌, cond, ◌&&◌, ℕ, replicate}
+use Rattle.std.specs.Prelude.{List, [], ◌∷◌, cond, ◌&&◌, ℕ, replicate, Err, None, Ok, Option, Result, Some}
 use Rattle.error.specs.Rules.{number_of}
 use Rattle.error.specs.declared.Refusal.TheVariants.{BadBuffer}
 use Rattle.numbers.specs.Rules.{step_numbers, session_numbers, budget_numbers}
-use Rattle.registers.specs.declared.Read.{Read}
-use Rattle.registers.specs.declared.Read.TheVariants as read
 use Rattle.registers.specs.Rules.{bank_of, read_of, put_of}
 use Rattle.session.specs.Rules.{fresh, defaults}
 use Rattle.vm.specs.Rules.{Banks, banks, After, step_answer, run_answer}
-use Rattle.vm.specs.declared.Answer.{Answer}
-use Rattle.vm.specs.declared.Answer.TheVariants as answer
 use Rattle.lent.specs.Rules.{sized, verdict_number, Handed, handed, refused, into}
+use Rattle.error.specs.declared.Refusal.{Refusal}
+use Rattle.vm.specs.declared.Stepped.{Stepped}
 
 -- ---- registers, sessions and budgets
 
@@ -32,10 +30,10 @@ fresh_session l = into 6 l (handed 0 (session_numbers fresh))
 unfoldable pub default_budgets : List ℕ → Handed
 default_budgets l = into 3 l (handed 0 (budget_numbers defaults))
 
-abbrev pub read_by : Read → List ℕ → Handed
-read_by (read.Value v) l = handed 0 (1 ∷ v ∷ [])
-read_by read.NoRegister l = handed 0 (0 ∷ 0 ∷ [])
-read_by (read.Refused r) l = refused r l
+abbrev pub read_by : Result (Option ℕ) Refusal → List ℕ → Handed
+read_by (Ok (Some v)) l = handed 0 (1 ∷ v ∷ [])
+read_by (Ok None) l = handed 0 (0 ∷ 0 ∷ [])
+read_by (Err r) l = refused r l
 
 unfoldable pub read_call : ℕ → List ℕ → ℕ → List ℕ → Handed
 read_call size bank i l = into 2 l (read_by (read_of size bank i) l)
@@ -54,9 +52,9 @@ pub record Told : Type 0 where
 abbrev pub told : ℕ → ℕ → List ℕ → Told
 told n pc l = record { number = n; pc = pc; held = l }
 
-abbrev pub told_by : Answer → ℕ → List ℕ → Told
-told_by (answer.Done t) pc l = told 0 t.pc (step_numbers t.step)
-told_by (answer.Refused r) pc l = told (number_of r) pc l
+abbrev pub told_by : Result Stepped Refusal → ℕ → List ℕ → Told
+told_by (Ok t) pc l = told 0 t.pc (step_numbers t.step)
+told_by (Err r) pc l = told (number_of r) pc l
 
 -- the same beside the banks
 pub record Machine : Type 0 where
@@ -66,7 +64,7 @@ pub record Machine : Type 0 where
 abbrev pub machine : Banks → Told → Machine
 machine s t = record { regs = s; left = t }
 
-abbrev pub machine_by : After Answer → ℕ → List ℕ → Machine
+abbrev pub machine_by : After (Result Stepped Refusal) → ℕ → List ℕ → Machine
 machine_by a pc l = machine a.regs (told_by a.answer pc l)
 
 abbrev pub machine_into : Banks → ℕ → List ℕ → Machine → Machine

@@ -1,8 +1,7 @@
 -- Examples of refusals by number, and of the lengths of lent arrays (document 01, "Numbers and bounds"). Assumes nothing.
-use Rattle.std.specs.Prelude.{◌≡◌, refl, Bool, true, false, [], ◌∷◌, map, ℕ, replicate}
+use Rattle.std.specs.Prelude.{◌≡◌, refl, Bool, true, false, [], ◌∷◌, map, ℕ, replicate, Err, Ok}
 use Rattle.error.specs.Rules.{number_of}
 use Rattle.error.specs.declared.Refusal.TheVariants.{TooLong, BadEntry, BadBudget, NotAnEntry}
-use Rattle.error.specs.declared.Verdict.TheVariants.{Fine, Refused}
 use Rattle.lent.specs.Rules.{lengths_fit, verdict_number}
 
 -- The first, the fourth and the last refusal of the table.
@@ -19,8 +18,8 @@ unfolding lengths_fit
 lengths = refl
 
 -- 0, or a refusal: 7 bad budget.
-fine : verdict_number Fine ≡ 0
+fine : verdict_number (Ok tt) ≡ 0
 fine = refl
 
-bad_budget : verdict_number (Refused BadBudget) ≡ 7
+bad_budget : verdict_number (Err BadBudget) ≡ 7
 bad_budget = refl

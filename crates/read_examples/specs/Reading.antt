@@ -1,14 +1,9 @@
 -- Examples of big-endian reads and writes, of the header and of a writer's room (document 01, module 2 and "Numbers and bounds"). Assumes nothing.
-use Rattle.std.specs.Prelude.{◌≡◌, refl, true, false, List, [], ◌∷◌, ℕ, ◌+◌, ◌-◌, get_or, replicate}
+use Rattle.std.specs.Prelude.{◌≡◌, refl, true, false, List, [], ◌∷◌, ℕ, ◌+◌, ◌-◌, get_or, replicate, Err, Ok}
 use Rattle.laws.specs.Firsts.{all, all_below}
 use Rattle.laws.specs.Over.{over}
 use Rattle.error.specs.declared.Refusal.TheVariants.{BadHeader, BadBody, NoRoom}
-use Rattle.error.specs.declared.Verdict.TheVariants as verdict
-use Rattle.common.specs.declared.Moved.TheVariants as moved
-use Rattle.common.specs.declared.Byte.TheVariants as byte
-use Rattle.common.specs.declared.Half.TheVariants as half
-use Rattle.common.specs.declared.Word.TheVariants as word
-use Rattle.common.specs.Rules.{be2, be4, bytes2, bytes4, reader, seek_of, read_u8, read_u16, read_u32, limit, header_of, room_verdict}
+use Rattle.common.specs.Rules.{be2, be4, bytes2, bytes4, seek_of, read_u8, read_u16, read_u32, limit, header_of, room_verdict}
 
 -- six bytes
 abbrev six : List ℕ
@@ -26,39 +21,39 @@ abbrev file_of : ℕ → List ℕ
 file_of n = 0x4D ∷ 0x4F ∷ 0x42 ∷ 0x4A ∷ replicate (n - 4) 0
 
 -- A new reader stands at the first byte.
-new_reader : read_u8 (file_of 44) (reader 0).pos ≡ byte.Value 0x4D (reader 1)
+new_reader : read_u8 (file_of 44) 0 ≡ (Ok 0x4D, 1)
 new_reader = refl
 
 -- A seek past the end is refused.
-seek_past_the_end : seek_of six 7 ≡ moved.Refused BadBody
+seek_past_the_end : seek_of six 0 7 ≡ (Err BadBody, 0)
 seek_past_the_end = refl
 
 -- A skip goes on from the position.
-skip_of_3_from_2 : seek_of six ((reader 2).pos + 3) ≡ moved.To (reader 5)
+skip_of_3_from_2 : seek_of six 2 (2 + 3) ≡ (Ok tt, 5)
 skip_of_3_from_2 = refl
 
 -- A skip to the end is allowed, one past it refused.
-skips_of_4_and_5_from_2 : seek_of six ((reader 2).pos + 4) ∷ seek_of six ((reader 2).pos + 5) ∷ [] ≡ moved.To (reader 6) ∷ moved.Refused BadBody ∷ []
+skips_of_4_and_5_from_2 : seek_of six 2 (2 + 4) ∷ seek_of six 2 (2 + 5) ∷ [] ≡ (Ok tt, 6) ∷ (Err BadBody, 2) ∷ []
 skips_of_4_and_5_from_2 = refl
 
 -- A read that passes the end is refused.
-byte_past_the_end : read_u8 six 6 ≡ byte.Refused BadBody
+byte_past_the_end : read_u8 six 6 ≡ (Err BadBody, 6)
 byte_past_the_end = refl
 
-word_cut_by_the_end : read_u32 six 3 ≡ word.Refused BadBody
+word_cut_by_the_end : read_u32 six 3 ≡ (Err BadBody, 3)
 word_cut_by_the_end = refl
 
 -- Reads are big-endian, and hand the next position back.
-half_at_1 : read_u16 six 1 ≡ half.Value 0x0203 (reader 3)
+half_at_1 : read_u16 six 1 ≡ (Ok 0x0203, 3)
 unfolding be2
 half_at_1 = refl
 
-word_at_1 : read_u32 six 1 ≡ word.Value 0x0203_0405 (reader 5)
+word_at_1 : read_u32 six 1 ≡ (Ok 0x0203_0405, 5)
 unfolding be4
 word_at_1 = refl
 
 -- Under 40 bytes is a bad header.
-lengths_39_and_40 : header_of mobj (file_of 39) ∷ header_of mobj (file_of 40) ∷ [] ≡ verdict.Refused BadHeader ∷ verdict.Fine ∷ []
+lengths_39_and_40 : header_of mobj (file_of 39) ∷ header_of mobj (file_of 40) ∷ [] ≡ Err BadHeader ∷ Ok tt ∷ []
 unfolding be4 header_of
 lengths_39_and_40 = refl
 
@@ -83,7 +78,7 @@ unfolding all all_below
 flags = refl
 
 -- A file of the limit is written where the room is as long, and not where it is shorter; a longer one never.
-rooms : room_verdict limit limit ∷ room_verdict limit 99 ∷ room_verdict (limit + 1) (limit + 1) ∷ [] ≡ verdict.Fine ∷ verdict.Refused NoRoom ∷ verdict.Refused NoRoom ∷ []
+rooms : room_verdict limit limit ∷ room_verdict limit 99 ∷ room_verdict (limit + 1) (limit + 1) ∷ [] ≡ Ok tt ∷ Err NoRoom ∷ Err NoRoom ∷ []
 unfolding room_verdict
 rooms = refl
 

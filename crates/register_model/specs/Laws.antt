@@ -1,11 +1,10 @@
 -- The class table at each place, and how many registers each class has. Assumes nothing.
-use Rattle.std.specs.Prelude.{◌≡◌, refl, true, false, List, ℕ, ◌≤◌, ◌<◌, eqb, length, get_or}
+use Rattle.std.specs.Prelude.{◌≡◌, refl, true, false, List, ℕ, ◌≤◌, ◌<◌, eqb, length, get_or, None, Some}
 use Rattle.std.proofs.Common.{ap, ◌∙◌, arith, lt-ltb, le-ltb}
 use Rattle.std.proofs.lemmas.Bool.{lt-leb}
 use Rattle.laws.specs.Table.{at}
 use Rattle.register_model.specs.declared.PsrClass.{PsrClass}
 use Rattle.register_model.specs.declared.PsrClass.TheVariants.{PlaybackStatus, PlayerSetting, Reserved}
-use Rattle.register_model.specs.declared.ClassAt.TheVariants.{Class, NoRegister}
 use Rattle.register_model.specs.Rules.{class_of, class_number, class_table, class_named, class_at, may_write, writable, Counts}
 
 pub table_length : length class_table ≡ 128
@@ -45,10 +44,10 @@ unfolding writable
 writes_at i e h = ap (λ t. eqb (get_or t i 0) 0) e ∙ ap (λ n. eqb n 0) (table_at i h) ∙ zero_writes (class_of i)
 
 -- the class of a register that is there, from its number in the table, and of one that is not
-pub class_there : (i : ℕ) {table : List ℕ} {k : PsrClass} → i < 128 → table ≡ class_table → k ≡ class_named (get_or table i 0) → Class k ≡ class_at i
+pub class_there : (i : ℕ) {table : List ℕ} {k : PsrClass} → i < 128 → table ≡ class_table → k ≡ class_named (get_or table i 0) → Some k ≡ class_at i
 unfolding class_at
 class_there i h t e = rw (lt-ltb i 128 h, e ∙ ap (λ l. class_named (get_or l i 0)) t ∙ ap class_named (table_at i h) ∙ named (class_of i))
 
-pub class_not_there : (i : ℕ) → 128 ≤ i → NoRegister ≡ class_at i
+pub class_not_there : (i : ℕ) → 128 ≤ i → None ≡ class_at i
 unfolding class_at
 class_not_there i h = rw (le-ltb i 128 h)

@@ -1,10 +1,8 @@
 -- The class of each status register (document 01, module 3). Assumes nothing.
-use Rattle.std.specs.Prelude.{◌≡◌, Bool, true, false, cond, not, ◌||◌, ◌&&◌, List, [], ◌∷◌, ℕ, ◌+◌, eqb, leb, ltb, get_or}
+use Rattle.std.specs.Prelude.{◌≡◌, Bool, true, false, cond, not, ◌||◌, ◌&&◌, List, [], ◌∷◌, ℕ, ◌+◌, eqb, leb, ltb, get_or, None, Option, Some}
 use Rattle.laws.specs.Table.{listed}
 use Rattle.register_model.specs.declared.PsrClass.{PsrClass}
 use Rattle.register_model.specs.declared.PsrClass.TheVariants.{PlaybackStatus, PlayerSetting, Reserved}
-use Rattle.register_model.specs.declared.ClassAt.{ClassAt}
-use Rattle.register_model.specs.declared.ClassAt.TheVariants.{Class, NoRegister}
 
 abbrev pub between : ℕ → ℕ → ℕ → Bool
 between low high i = leb i high && leb low i
@@ -28,8 +26,8 @@ class_of i =
     (cond (read_only i) (PlaybackStatus true) (cond (setting i) PlayerSetting Reserved))
 
 -- There are 128 status registers.
-unfoldable pub class_at : ℕ → ClassAt
-class_at i = cond (ltb i 128) (Class (class_of i)) NoRegister
+unfoldable pub class_at : ℕ → Option PsrClass
+class_at i = cond (ltb i 128) (Some (class_of i)) None
 
 -- A command may write a register that is neither read-only, nor a setting, nor reserved.
 abbrev pub may_write : PsrClass → Bool

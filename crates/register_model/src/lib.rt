@@ -8,46 +8,34 @@ pub const GPR_COUNT: usize = 4096;
 
 pub const PSR_COUNT: usize = 128;
 
-#[derive(Drop)]
+#[derive(Clone, Copy, Debug, PartialEq, Eq)]
 pub enum PsrClass {
     PlaybackStatus { read_only: bool },
     PlayerSetting,
     Reserved,
 }
 
-// The class of a register, if there is such a register.
-#[derive(Drop)]
-pub enum ClassAt {
-    Class(PsrClass),
-    NoRegister,
-}
-
 // Each status register's class: 0 commands may write it, 1 read-only, 2 a setting, 3 reserved.
-const CLASSES: [u8; 128] = [
+// Numbers, since `class_table` is a list of them.
+static CLASSES: [u8; 128] = [
     0, 0, 0, 0, 0, 0, 0, 0, 1, 1, 0, 0, 0, 2, 0, 2, 2, 2, 2, 2, 2, 3, 3, 3, 3, 3, 3, 3, 3, 2, 2, 2,
     3, 3, 3, 3, 0, 0, 0, 0, 1, 3, 0, 0, 0, 3, 3, 3, 2, 2, 2, 2, 2, 2, 2, 2, 2, 2, 2, 2, 2, 2, 3, 3,
     3, 3, 3, 3, 3, 3, 3, 3, 3, 3, 3, 3, 3, 3, 3, 3, 3, 3, 3, 3, 3, 3, 3, 3, 3, 3, 3, 3, 3, 3, 3, 3,
     3, 3, 3, 3, 3, 3, 3, 3, 3, 3, 3, 3, 3, 3, 3, 3, 3, 3, 3, 3, 3, 3, 3, 3, 3, 3, 3, 3, 3, 3, 3, 3,
 ];
 
-// The class table, to be lent to everything that consults it.
-pub fn classes() -> [u8; 128]
-    ensures { result ≡ class_table }
+// The class table.
+pub fn classes() -> &'static [u8; 128]
+    ensures { result.now ≡ class_table }
 {
-    CLASSES
+    &CLASSES
 }
 
-// Whether a command may write a status register, by the lent class table.
-pub fn may_write(classes: &[u8], index: u16) -> bool
-    requires { classes.now ≡ class_table }
+// Whether a command may write a status register.
+pub fn may_write(index: u16) -> bool
     ensures { result ≡ writable index }
 {
-    let at = index as usize;
-    if at < classes.len() {
-        classes[at] == 0
-    } else {
-        false
-    }
+    classes().get(usize::from(index)).copied() == Some(0)
 }
 
 fn class_of(number: u8) -> PsrClass
@@ -62,16 +50,11 @@ fn class_of(number: u8) -> PsrClass
 }
 
 // The class of a status register; from 128 on there is none.
-pub fn psr_class(index: u16) -> ClassAt
+pub fn psr_class(index: u16) -> Option<PsrClass>
     ensures { result ≡ class_at index }
 {
-    let at = index as usize;
-    if at < 128 {
-        let table = classes();
-        let number = table[at];
-        return ClassAt::Class(class_of(number));
-    }
-    ClassAt::NoRegister
+    let number = *classes().get(usize::from(index))?;
+    Some(class_of(number))
 }
 
 // How many registers each class has: 19 that commands may write, 3 read-only, 24 settings, 82 reserved.

@@ -1,12 +1,11 @@
 -- What follows from the rules of the register banks, for the layers above. Assumes nothing.
-use Rattle.std.specs.Prelude.{◌≡◌, refl, Bool, true, false, ℕ, eqb}
+use Rattle.std.specs.Prelude.{◌≡◌, refl, Bool, true, false, cond, ℕ, eqb, Ok}
 use Rattle.std.proofs.Common.{sym, ◌∙◌, arith, length-set, eqb-true}
 use mathlib.Core.List.{List}
 use Rattle.std.proofs.Math.ListN.{length}
 use Rattle.laws.specs.Cases.{either_way}
 use Rattle.error.specs.declared.Refusal.{Refusal}
 use Rattle.error.specs.declared.Refusal.TheVariants.{BadBuffer}
-use Rattle.error.specs.declared.Verdict.TheVariants as Fit
 use Rattle.register_model.specs.Rules.{writable}
 use Rattle.nav_command.specs.declared.Operand.{Operand}
 use Rattle.nav_command.specs.declared.Operand.TheVariants.{Absent, Immediate, Register}
@@ -37,6 +36,14 @@ one_answer =
       writes = λ size bank i v. unique (put_of size bank i v);
       verdicts = λ size bank. unique (bank_of size bank);
     }
+
+-- A Set command that has no effect leaves all as it is.
+pub sets_nothing : (op : Operation) (a b : Operand) (x y : ℕ) (s : Banks) → effect_for op x y ≡ Nothing → s ≡ set_of op a b x y s
+unfolding set_of applied
+sets_nothing op a b x y s e = rw e (both (names a)) where
+  both : (t : Bool) → s ≡ cond t s s
+  both true = refl
+  both false = refl
 
 -- Both banks keep their lengths.
 
@@ -72,10 +79,10 @@ abbrev pub Full : List ℕ → List ℕ → Type 0
 Full g p = Sized 4096 128 (banks g p)
 
 -- what the test of a bank tells where it passes
-passed : (r : Refusal) (fine : Bool) → refuses r fine ≡ Fit.Fine → fine ≡ true
+passed : (r : Refusal) (fine : Bool) → refuses r fine ≡ Ok tt → fine ≡ true
 passed r true h = refl
 passed r false h = let z : ◌≡◌ {A = ℕ} 0 1 = cc in absurd (omega arith)
 
-pub fine_bank : (size : ℕ) (bank : List ℕ) → bank_of size bank ≡ Fit.Fine → length bank ≡ size
+pub fine_bank : (size : ℕ) (bank : List ℕ) → bank_of size bank ≡ Ok tt → length bank ≡ size
 unfolding bank_of
 fine_bank size bank h = eqb-true (length bank) size (passed BadBuffer (eqb (length bank) size) h)

@@ -1,10 +1,17 @@
 -- What inner functions of the code promise one another, in terms of the rules; none of it has to be believed. Assumes nothing.
-use Rattle.std.specs.Prelude.{Bool, ℕ}
+use Rattle.std.specs.Prelude.{Bool, true, false, ℕ}
 use Rattle.nav_command.specs.Rules.{operand_of}
 use Rattle.nav_command.specs.declared.Operation.{Operation}
 use Rattle.nav_command.specs.declared.Operand.{Operand}
+use Rattle.nav_command.specs.declared.RegisterBank.{RegisterBank}
+use Rattle.nav_command.specs.declared.RegisterBank.TheVariants.{Gpr, Psr}
 use Rattle.registers.specs.declared.Raw.{Raw}
 use Rattle.registers.specs.Rules.{Banks, value_of, effect_for, applied, set_of}
+
+-- the bank that a flag picks; commands name the status one in two ways
+abbrev pub bank_for : Bool → RegisterBank
+bank_for true = Psr
+bank_for false = Gpr
 
 -- an effect and a Set with the values that their operands have
 unfoldable pub applied_in : Operation → Operand → Operand → Banks → Banks

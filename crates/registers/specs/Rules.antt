@@ -1,11 +1,10 @@
 -- The register banks, how operands read and write them, and what a Set leaves (document 01, "One command"). Assumes nothing.
-use Rattle.std.specs.Prelude.{Bool, false, cond, List, ℕ, eqb, ltb, length, get_or, set, replicate}
+use Rattle.std.specs.Prelude.{Bool, false, cond, List, ℕ, eqb, ltb, length, get_or, set, replicate, Option, Some, None, Result, Ok, Err}
 use Rattle.std.specs.Int.Bits.{bit_and, bit_or, bit_xor}
 use Rattle.word.specs.Word.{add_low, sub_low, mul_low, div_or0, mod_or0, random, with_bit, without_bit, shift_left, shift_right}
 use Rattle.error.specs.declared.Refusal.{Refusal}
 use Rattle.error.specs.declared.Refusal.TheVariants.{BadBuffer}
-use Rattle.error.specs.declared.Verdict.{Verdict}
-use Rattle.error.specs.declared.Verdict.TheVariants as Fit
+use Rattle.error.specs.Rules.{Verdict}
 use Rattle.register_model.specs.Rules.{writable}
 use Rattle.nav_command.specs.declared.SetOp.{SetOp}
 use Rattle.nav_command.specs.declared.SetOp.TheVariants as S
@@ -16,8 +15,6 @@ use Rattle.nav_command.specs.declared.Operand.{Operand}
 use Rattle.nav_command.specs.declared.Operand.TheVariants.{Absent, Immediate, Register}
 use Rattle.registers.specs.declared.Effect.{Effect}
 use Rattle.registers.specs.declared.Effect.TheVariants.{Write, Swap, Nothing}
-use Rattle.registers.specs.declared.Read.{Read}
-use Rattle.registers.specs.declared.Read.TheVariants.{Value, NoRegister, Refused}
 
 -- The registers, 4,096 general beside 128 status.
 
@@ -100,23 +97,23 @@ set_of op a b x y s = cond (names a) (applied (effect_for op x y) a b x y s) s
 -- Refusal 6: a bank that has not its number of registers.
 
 abbrev pub refuses : Refusal → Bool → Verdict
-refuses r fine = cond fine Fit.Fine (Fit.Refused r)
+refuses r fine = cond fine (Ok tt) (Err r)
 
 unfoldable pub bank_of : ℕ → List ℕ → Verdict
 bank_of size bank = refuses BadBuffer (eqb (length bank) size)
 
 -- The player's own reads and writes of a bank of `size` registers: a number from `size` on names none.
 
-abbrev pub read_by : Verdict → Read → Read
-read_by Fit.Fine r = r
-read_by (Fit.Refused r) v = Refused r
+abbrev pub read_by : Verdict → Result (Option ℕ) Refusal → Result (Option ℕ) Refusal
+read_by (Ok u) r = r
+read_by (Err r) v = Err r
 
-unfoldable pub read_of : ℕ → List ℕ → ℕ → Read
-read_of size bank i = read_by (bank_of size bank) (cond (ltb i size) (Value (get_or bank i 0)) NoRegister)
+unfoldable pub read_of : ℕ → List ℕ → ℕ → Result (Option ℕ) Refusal
+read_of size bank i = read_by (bank_of size bank) (cond (ltb i size) (Ok (Some (get_or bank i 0))) (Ok None))
 
 abbrev pub put_by : Verdict → List ℕ → List ℕ → List ℕ
-put_by Fit.Fine old new = new
-put_by (Fit.Refused r) old new = old
+put_by (Ok u) old new = new
+put_by (Err r) old new = old
 
 unfoldable pub put_of : ℕ → List ℕ → ℕ → ℕ → List ℕ
 put_of size bank i v = put_by (bank_of size bank) bank (set bank i v)

@@ -1,31 +1,20 @@
 // The register banks: a fresh bank, the player's reads and writes, and what a Set command leaves (part of the Rust's vm.rs).
 #![tactic(auto)]
 
-ghost use Rattle.std.specs.Prelude.{◌≡◌, true, false, cond, ◌%◌, length, get_or, set};
-ghost use Rattle.register_model.specs.Rules.{class_table};
-ghost use Rattle.nav_command.specs.Rules.{operand_of};
+ghost use Rattle.std.specs.Prelude.{◌≡◌, ◌%◌, get_or, set};
 ghost use Rattle.nav_command.specs.Rules as nav;
 ghost use Rattle.nav_command.specs.declared.Operand.TheVariants.{Register};
-ghost use Rattle.nav_command.specs.declared.RegisterBank.TheVariants.{Gpr, Psr};
-ghost use Rattle.registers.specs.Laws.{Full, OneAnswer};
-ghost use Rattle.registers.specs.Rules.{banks, fresh_general, fresh_status, value_of, written_status, written, effect_for, refuses, bank_of, read_of, put_of};
-ghost use Rattle.registers.specs.Pieces.{applied_in, set_in, meant};
+ghost use Rattle.registers.specs.Laws.{OneAnswer};
+ghost use Rattle.registers.specs.Rules.{banks, fresh_general, fresh_status, value_of, written, effect_for, refuses, bank_of, read_of, put_of};
+ghost use Rattle.registers.specs.Pieces.{bank_for, applied_in, set_in, meant};
 
-use error::{Refusal, Verdict};
+use error::Refusal;
 
 // A fresh bank: 4,096 general registers beside 128 status registers, all zero.
 #[derive(Drop)]
 pub struct Registers {
     pub gpr: [u32; 4096],
     pub psr: [u32; 128],
-}
-
-// What a player's read of a register gives.
-#[derive(Drop)]
-pub enum Read {
-    Value(u32),
-    NoRegister,
-    Refused(Refusal),
 }
 
 // An operand as it stands in a command: whether it is there, whether it is a number of its own, and its word.
@@ -37,29 +26,27 @@ pub struct Raw {
 }
 
 // What a Set operation does: a value for its first operand, an exchange of both, or nothing.
-#[derive(Drop)]
+#[derive(Clone, Copy)]
 enum Effect {
     Write(u32),
     Swap,
     Nothing,
 }
 
-// One register of a bank of `size`, and one operand.
-
-fn load(size: usize, bank: &[u32], index: u16) -> u32
-    requires { length bank.now ≡ size }
-    ensures { result ≡ get_or bank.now index 0 }
-{
-    let at = index as usize;
-    if at < size { bank[at] } else { 0 }
+// The banks that commands work on.
+#[derive(Drop)]
+pub struct Banks<'a> {
+    pub gpr: &'a mut [u32],
+    pub psr: &'a mut [u32],
 }
 
-fn store(size: usize, bank: &mut [u32], index: u16, value: u32)
-    requires { length bank.old ≡ size }
+// One register of a bank.
+
+fn store(bank: &mut [u32], index: u16, value: u32)
     ensures { bank.new ≡ set bank.old index value }
 {
     let at = index as usize;
-    if at < size {
+    if at < bank.len() {
         bank[at] = value;
     }
 }
@@ -71,78 +58,8 @@ fn index_of(word: u32) -> u16
     (word % 4096) as u16
 }
 
-// The value of the register that a word names.
-fn value_at(gpr: &[u32], psr: &[u32], word: u32) -> u32
-    requires { Full gpr.now psr.now }
-    ensures { result ≡ value_of (operand_of true false word) (banks gpr.now psr.now) }
-{
-    let index = index_of(word);
-    if word < 0x8000_0000 {
-        return load(Registers::GPR_COUNT, gpr, index);
-    }
-    load(Registers::PSR_COUNT, psr, index)
-}
-
-// An operand's value; 0 where there is none.
-pub fn value(gpr: &[u32], psr: &[u32], a: Raw) -> u32
-    requires { Full gpr.now psr.now }
-    ensures { result ≡ value_of (meant a) (banks gpr.now psr.now) }
-{
-    if a.there {
-        if a.immediate {
-            return a.word;
-        }
-        return value_at(gpr, psr, a.word);
-    }
-    0
-}
-
-fn store_if(allowed: bool, size: usize, bank: &mut [u32], index: u16, value: u32)
-    requires { length bank.old ≡ size }
-    ensures { bank.new ≡ cond allowed (set bank.old index value) bank.old }
-{
-    if allowed {
-        store(size, bank, index, value);
-    }
-}
-
-// Writes a status register if commands may write it.
-fn write_status(psr: &mut [u32], classes: &[u8], index: u16, v: u32)
-    requires { (classes.now ≡ class_table) × (length psr.old ≡ 128) }
-    ensures { psr.new ≡ written_status index v psr.old }
-{
-    let allowed = register_model::may_write(classes, index);
-    store_if(allowed, Registers::PSR_COUNT, psr, index, v);
-}
-
-// Writes the register that a word names as a command does: a protected one keeps its value.
-fn write_at(gpr: &mut [u32], psr: &mut [u32], classes: &[u8], word: u32, v: u32)
-    requires { (classes.now ≡ class_table) × Full gpr.old psr.old }
-    ensures { banks gpr.new psr.new ≡ written (operand_of true false word) v (banks gpr.old psr.old) }
-{
-    let index = index_of(word);
-    if word < 0x8000_0000 {
-        store(Registers::GPR_COUNT, gpr, index, v);
-        return;
-    }
-    write_status(psr, classes, index, v);
-}
-
-fn write(gpr: &mut [u32], psr: &mut [u32], classes: &[u8], a: Raw, v: u32)
-    requires { (classes.now ≡ class_table) × Full gpr.old psr.old }
-    ensures { banks gpr.new psr.new ≡ written (meant a) v (banks gpr.old psr.old) }
-{
-    if a.there {
-        if a.immediate {
-            return;
-        }
-        write_at(gpr, psr, classes, a.word, v);
-    }
-}
-
-// Sets.
-
 // What a Set command makes of its operands' values, by its code: Move, Swap, Add and so on.
+#[tactic(auto, unfolding(nav_command::specs::Rules::set_of))]
 fn compute(code: u8, x: u32, y: u32) -> Effect
     ensures { result ≡ effect_for (nav.set_of 0 code) x y }
 {
@@ -166,60 +83,96 @@ fn compute(code: u8, x: u32, y: u32) -> Effect
     }
 }
 
-fn set_general(gpr: &mut [u32], psr: &mut [u32], classes: &[u8], code: u8, index: u16, b: Raw)
-    requires { (classes.now ≡ class_table) × Full gpr.old psr.old }
-    ensures { banks gpr.new psr.new
-        ≡ applied_in (nav.set_of 0 code) (Register Gpr index) (meant b) (banks gpr.old psr.old) }
-{
-    let x = load(Registers::GPR_COUNT, gpr, index);
-    let y = value(gpr, psr, b);
-    let effect = compute(code, x, y);
-    match effect {
-        Effect::Write(v) => store(Registers::GPR_COUNT, gpr, index, v),
-        Effect::Swap => {
-            write(gpr, psr, classes, b, x);
-            store(Registers::GPR_COUNT, gpr, index, y);
-        }
-        Effect::Nothing => {}
-    }
-}
+impl Banks<'_> {
+    ghost use Rattle.registers.specs.Lent.{held, Same};
 
-fn set_status(gpr: &mut [u32], psr: &mut [u32], classes: &[u8], code: u8, index: u16, b: Raw)
-    requires { (classes.now ≡ class_table) × Full gpr.old psr.old }
-    ensures { banks gpr.new psr.new
-        ≡ applied_in (nav.set_of 0 code) (Register Psr index) (meant b) (banks gpr.old psr.old) }
-{
-    let allowed = register_model::may_write(classes, index);
-    let x = load(Registers::PSR_COUNT, psr, index);
-    let y = value(gpr, psr, b);
-    let effect = compute(code, x, y);
-    match effect {
-        Effect::Write(v) => store_if(allowed, Registers::PSR_COUNT, psr, index, v),
-        Effect::Swap => {
-            write(gpr, psr, classes, b, x);
-            store_if(allowed, Registers::PSR_COUNT, psr, index, y);
+    // A register of the status bank, or else of the general one; 0 where there is none.
+    fn read<const STATUS: bool>(&self, index: u16) -> u32
+        ensures { result ≡ value_of (Register (bank_for STATUS) index) (held self.now) }
+    {
+        if STATUS {
+            self.psr.get(index as usize).copied().unwrap_or(0)
+        } else {
+            self.gpr.get(index as usize).copied().unwrap_or(0)
         }
-        Effect::Nothing => {}
     }
-}
 
-// Nothing is done unless the first operand names a register.
-pub fn set_registers(gpr: &mut [u32], psr: &mut [u32], classes: &[u8], code: u8, a: Raw, b: Raw)
-    requires { (classes.now ≡ class_table) × Full gpr.old psr.old }
-    ensures { banks gpr.new psr.new
-        ≡ set_in (nav.set_of 0 code) (meant a) (meant b) (banks gpr.old psr.old) }
-{
-    if a.there {
-        if a.immediate {
-            return;
+    // An operand's value; 0 where there is none.
+    #[tactic(auto, unfolding(nav_command::specs::Rules::operand_of))]
+    pub fn value(&self, a: Raw) -> u32
+        ensures { result ≡ value_of (meant a) (held self.now) }
+    {
+        if !a.there {
+            0
+        } else if a.immediate {
+            a.word
+        } else if a.word < 0x8000_0000 {
+            self.read::<false>(index_of(a.word))
+        } else {
+            self.read::<true>(index_of(a.word))
         }
-        let index = index_of(a.word);
-        if a.word < 0x8000_0000 {
-            set_general(gpr, psr, classes, code, index, b);
-            return;
+    }
+
+    // Writes a register as a command does: a protected one keeps its value.
+    #[tactic(auto, unfolding(crate::specs::Rules::written, crate::specs::Rules::written_status))]
+    fn write<const STATUS: bool>(&mut self, index: u16, v: u32)
+        ensures same { Same self.old self.new }
+        ensures wrote { held self.new ≡ written (Register (bank_for STATUS) index) v (held self.old) }
+    {
+        if !STATUS {
+            store(self.gpr, index, v);
+        } else if register_model::may_write(index) {
+            store(self.psr, index, v);
         }
-        if index < 128 {
-            set_status(gpr, psr, classes, code, index, b);
+    }
+
+    // Writes the register that an operand names.
+    #[tactic(auto, unfolding(nav_command::specs::Rules::operand_of, crate::specs::Rules::written))]
+    fn write_to(&mut self, a: Raw, v: u32)
+        ensures same { Same self.old self.new }
+        ensures wrote { held self.new ≡ written (meant a) v (held self.old) }
+    {
+        if a.there && !a.immediate {
+            if a.word < 0x8000_0000 {
+                self.write::<false>(index_of(a.word), v);
+            } else {
+                self.write::<true>(index_of(a.word), v);
+            }
+        }
+    }
+
+    // A Set of a register of one bank, each bank by itself: the arms ask for it once.
+    #[tactic(auto, unfolding(crate::specs::Pieces::applied_in, crate::specs::Rules::applied))]
+    fn set_register<const STATUS: bool>(&mut self, code: u8, index: u16, b: Raw)
+        ensures same { Same self.old self.new }
+        ensures set { held self.new
+            ≡ applied_in (nav.set_of 0 code) (Register (bank_for STATUS) index) (meant b) (held self.old) }
+    {
+        let x = self.read::<STATUS>(index);
+        let y = self.value(b);
+        match compute(code, x, y) {
+            Effect::Write(v) => self.write::<STATUS>(index, v),
+            Effect::Swap => {
+                self.write_to(b, x);
+                self.write::<STATUS>(index, y);
+            }
+            Effect::Nothing => {}
+        }
+    }
+
+    // Nothing is done unless the first operand names a register.
+    #[tactic(auto, unfolding(nav_command::specs::Rules::operand_of, crate::specs::Rules::set_of, crate::specs::Pieces::applied_in))]
+    pub fn set(&mut self, code: u8, a: Raw, b: Raw)
+        ensures same { Same self.old self.new }
+        ensures set { held self.new ≡ set_in (nav.set_of 0 code) (meant a) (meant b) (held self.old) }
+    {
+        if a.there && !a.immediate {
+            let index = index_of(a.word);
+            if a.word < 0x8000_0000 {
+                self.set_register::<false>(code, index, b);
+            } else if index < 128 {
+                self.set_register::<true>(code, index, b);
+            }
         }
     }
 }
@@ -227,45 +180,35 @@ pub fn set_registers(gpr: &mut [u32], psr: &mut [u32], classes: &[u8], code: u8,
 // The player's own calls.
 
 // A test of the input, and its refusal.
-pub fn refuse_unless(refusal: Refusal, fine: bool) -> Verdict
+pub fn refuse_unless(refusal: Refusal, fine: bool) -> Result<(), Refusal>
     ensures { result ≡ refuses refusal fine }
 {
-    if fine {
-        return Verdict::Fine;
-    }
-    Verdict::Refused(refusal)
+    refusal.refused_if(!fine)
 }
 
 // Whether a bank has its number of registers.
-pub fn check_bank(size: usize, bank: &[u32]) -> Verdict
+#[tactic(auto, unfolding(crate::specs::Rules::bank_of))]
+pub fn check_bank(size: usize, bank: &[u32]) -> Result<(), Refusal>
     ensures { result ≡ bank_of size bank.now }
 {
     refuse_unless(Refusal::BadBuffer, bank.len() == size)
 }
 
-fn read_at(size: usize, bank: &[u32], index: u16) -> Read
+#[tactic(auto, unfolding(crate::specs::Rules::bank_of, crate::specs::Rules::read_of))]
+fn read_at(size: usize, bank: &[u32], index: u16) -> Result<Option<u32>, Refusal>
     ensures { result ≡ read_of size bank.now index }
 {
-    let verdict = check_bank(size, bank);
-    if let Verdict::Refused(refusal) = verdict {
-        return Read::Refused(refusal);
-    }
-    let at = index as usize;
-    if at < size {
-        return Read::Value(load(size, bank, index));
-    }
-    Read::NoRegister
+    check_bank(size, bank)?;
+    Ok(bank.get(index as usize).copied())
 }
 
-fn put_at(size: usize, bank: &mut [u32], index: u16, v: u32) -> Verdict
+#[tactic(auto, unfolding(crate::specs::Rules::bank_of, crate::specs::Rules::put_of))]
+fn put_at(size: usize, bank: &mut [u32], index: u16, v: u32) -> Result<(), Refusal>
     ensures { (bank.new ≡ put_of size bank.old index v) × (result ≡ bank_of size bank.old) }
 {
-    let verdict = check_bank(size, bank);
-    if let Verdict::Refused(_) = verdict {
-        return verdict;
-    }
-    store(size, bank, index, v);
-    verdict
+    check_bank(size, bank)?;
+    store(bank, index, v);
+    Ok(())
 }
 
 impl Registers {
@@ -283,28 +226,28 @@ impl Registers {
     }
 
     // A general register; there is none from 4,096 on.
-    pub fn gpr(bank: &[u32], index: u16) -> Read
+    pub fn gpr(bank: &[u32], index: u16) -> Result<Option<u32>, Refusal>
         ensures { result ≡ read_of 4096 bank.now index }
     {
         read_at(Self::GPR_COUNT, bank, index)
     }
 
     // A status register; there is none from 128 on.
-    pub fn psr(bank: &[u32], index: u16) -> Read
+    pub fn psr(bank: &[u32], index: u16) -> Result<Option<u32>, Refusal>
         ensures { result ≡ read_of 128 bank.now index }
     {
         read_at(Self::PSR_COUNT, bank, index)
     }
 
     // Writes a general register; a number from 4,096 on names none, and nothing is written.
-    pub fn set_gpr(bank: &mut [u32], index: u16, v: u32) -> Verdict
+    pub fn set_gpr(bank: &mut [u32], index: u16, v: u32) -> Result<(), Refusal>
         ensures { (bank.new ≡ put_of 4096 bank.old index v) × (result ≡ bank_of 4096 bank.old) }
     {
         put_at(Self::GPR_COUNT, bank, index, v)
     }
 
     // Writes a status register as the player does: none is protected from it.
-    pub fn set_psr_player(bank: &mut [u32], index: u16, v: u32) -> Verdict
+    pub fn set_psr_player(bank: &mut [u32], index: u16, v: u32) -> Result<(), Refusal>
         ensures { (bank.new ≡ put_of 128 bank.old index v) × (result ≡ bank_of 128 bank.old) }
     {
         put_at(Self::PSR_COUNT, bank, index, v)

@@ -15,7 +15,7 @@ fn replay(input: &[u8], so_far: Replayed) -> Replayed {
     let file = replay_list::part(input, start, filed);
     let told = Replayed {
         next: word::add(start, filed),
-        wrong: so_far.wrong,
+        ..so_far
     };
     let found = numbers::check_numbers(disc_check::check(index, file));
     replay_list::compare(&found, input, told)
@@ -23,10 +23,8 @@ fn replay(input: &[u8], so_far: Replayed) -> Replayed {
 
 fn replay_all(input: &[u8], discs: u32) -> Replayed {
     let mut so_far = Replayed { next: 2, wrong: 0 };
-    let mut left = discs;
-    while left > 0 {
+    for _ in 0..discs {
         so_far = replay(input, so_far);
-        left -= 1;
     }
     so_far
 }

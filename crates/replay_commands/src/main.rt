@@ -4,18 +4,16 @@
 ghost use Rattle.std.specs.Prelude.{◌≡◌, ◌+◌, ◌≤◌, length};
 ghost use Rattle.replay_commands.specs.Onward.{Onward};
 
-use error::Verdict;
 use nav_command::{CommandGroup, DecodedCommand, Operand, Operation};
-use nav_list::Listed;
 use replay_list::{print, same};
 use std::io;
 use std::io::{Input, Print};
 
 // Where the next record starts, and whether this one agrees with the port.
-#[derive(Drop)]
-enum Replayed {
-    Next(usize, bool),
-    Cut,
+#[derive(Clone, Copy)]
+struct Replayed {
+    next: usize,
+    agreed: bool,
 }
 
 fn group_number(group: CommandGroup) -> u8 {
@@ -39,10 +37,7 @@ fn put_low(out: &mut [u8], at: usize, number: u32) -> usize {
 }
 
 fn put_value(out: &mut [u8], at: usize, value: u32) -> usize {
-    let a = put_low(out, at, value / 0x100_0000);
-    let b = put_low(out, a, value / 0x1_0000);
-    let c = put_low(out, b, value / 0x100);
-    put_low(out, c, value)
+    text::put(out, at, &value.to_be_bytes())
 }
 
 fn put_operand(out: &mut [u8], at: usize, operand: Operand) -> usize {
@@ -59,22 +54,18 @@ fn put_operation(out: &mut [u8], at: usize, operation: Operation) -> usize {
 }
 
 fn put_head(out: &mut [u8], command: DecodedCommand) -> usize {
-    let group = command.group;
     let a = text::put_byte(out, 0, command.operand_count);
-    let b = text::put_byte(out, a, group_number(group));
+    let b = text::put_byte(out, a, group_number(command.group));
     let c = text::put_byte(out, b, command.sub_group);
     text::put_byte(out, c, flag(command.imm_op1, 1) + flag(command.imm_op2, 2))
 }
 
 // All eight fields, as a record has them.
 fn put_fields(out: &mut [u8], command: DecodedCommand) {
-    let operation = command.operation;
-    let operand1 = command.operand1;
-    let operand2 = command.operand2;
     let a = put_head(out, command);
-    let b = put_operation(out, a, operation);
-    let c = put_operand(out, b, operand1);
-    put_operand(out, c, operand2);
+    let b = put_operation(out, a, command.operation);
+    let c = put_operand(out, b, command.operand1);
+    put_operand(out, c, command.operand2);
 }
 
 fn fields_agree(fields: &[u8], command: DecodedCommand) -> bool {
@@ -85,22 +76,14 @@ fn fields_agree(fields: &[u8], command: DecodedCommand) -> bool {
 
 fn bytes_agree(bytes: &[u8], command: DecodedCommand) -> bool {
     let mut ours = [0u8; 12];
-    match nav_encode::encode(command, &mut ours) {
-        Verdict::Fine => same(bytes, &ours),
-        Verdict::Refused(_) => false,
-    }
+    nav_encode::encode(command, &mut ours).is_ok() && same(bytes, &ours)
 }
 
 fn text_agrees(line: &[u8], command: DecodedCommand) -> bool {
     let mut ours = [0u8; 112];
     match nav_list::list(command, &mut ours, 0) {
-        Listed::At(end) => {
-            if end <= 112 {
-                return same(line, &ours[..end]);
-            }
-            false
-        }
-        Listed::Refused(_) => false,
+        Ok(end) if end <= 112 => same(line, &ours[..end]),
+        _ => false,
     }
 }
 
@@ -109,7 +92,7 @@ fn agrees(head: &[u8], line: &[u8]) -> bool
     requires { length head.now ≡ 42 }
 {
     let mut bytes = [0u8; 12];
-    text::put(&mut bytes, 0, &head[0..12]);
+    bytes.copy_from_slice(&head[..12]);
     let command = DecodedCommand::decode(&bytes);
     let encoded = bytes_agree(&head[12..24], command);
     let decoded = fields_agree(&head[24..41], command);
@@ -117,42 +100,41 @@ fn agrees(head: &[u8], line: &[u8]) -> bool
     encoded & decoded & listed
 }
 
-fn wide(byte: u8) -> usize {
-    byte as usize
-}
-
-fn replay_one(input: &[u8], at: usize) -> Replayed
+// The record at a place; nothing where the input ends within its text.
+fn replay_one(input: &[u8], at: usize) -> Option<Replayed>
     requires { at + 42 ≤ length input.now }
     ensures { Onward at (length input.now) result }
 {
     let from = at + 42;
-    let count = wide(input[at + 41]);
-    if input.len() - from < count {
-        return Replayed::Cut;
+    let next = from + input[at + 41] as usize;
+    if input.len() < next {
+        return None;
     }
-    let to = from + count;
-    Replayed::Next(to, agrees(&input[at..from], &input[from..to]))
+    let agreed = agrees(&input[at..from], &input[from..next]);
+    Some(Replayed { next, agreed })
 }
 
 fn tell(rt: &impl Print, line: u32, agreed: bool) -> io::Result<u32> {
     if agreed {
-        return Ok(0);
+        Ok(0)
+    } else {
+        print(rt, line, b" is the number of a line that differs\n")?;
+        Ok(1)
     }
-    print(rt, line, b" is the number of a line that differs\n")?;
-    Ok(1)
 }
 
 fn replay(rt: &impl Print, input: &[u8]) -> io::Result<()> {
     let mut at = 0;
     let mut lines = 0;
     let mut wrong = 0;
+    // A `while`, since each record tells itself how long it is: no `chunks` has that step.
     while 42 <= input.len() - at {
-        let Replayed::Next(next, agreed) = replay_one(input, at) else {
+        let Some(replayed) = replay_one(input, at) else {
             return rt.write_all(b"the last line is cut\n");
         };
         lines = word::add(lines, 1);
-        wrong = word::add(wrong, tell(rt, lines, agreed)?);
-        at = next;
+        wrong = word::add(wrong, tell(rt, lines, replayed.agreed)?);
+        at = replayed.next;
     }
     print(rt, lines, b" commands compared\n")?;
     print(rt, wrong, b" differ\n")

@@ -1,29 +1,32 @@
 // Replays the runs that compare/src/bin/answers_drives.rs lists, and prints how many there are and how many numbers differ.
 #![tactic(auto)]
 
-ghost use Rattle.std.specs.Prelude.{◌<◌};
-
-use mobj_runner::RunAnswer;
-use nav_driver::DriveAnswer;
+use error::Refusal;
 use registers::Registers;
 use replay_list::{Replayed, byte, compare, differs, half, number, onward};
 use session::{Budgets, Session};
 use std::io;
 use std::io::{Input, Print};
 
-// What a call is asked: to go on or to start, where, and its budgets.
-#[derive(Drop)]
+// What a call is asked: where to start, or to go on, and its budgets.
+#[derive(Clone, Copy)]
 struct Asked {
-    resumes: bool,
-    start: u32,
+    start: Option<u32>,
     budgets: Budgets,
 }
 
 // The session that a call left, and how much differed.
-#[derive(Drop)]
+#[derive(Clone, Copy)]
 struct Called {
     session: Session,
     so_far: Replayed,
+}
+
+// The session that an answer hands back, and the numbers of its outcome.
+#[derive(Clone, Copy)]
+struct Ended {
+    session: Session,
+    outcome: [u32; 6],
 }
 
 fn read_call(input: &[u8], at: u32) -> Asked {
@@ -32,49 +35,33 @@ fn read_call(input: &[u8], at: u32) -> Asked {
         objects: half(input, at, 7),
         titles: half(input, at, 9),
     };
-    Asked {
-        resumes: byte(input, at, 0) % 2 == 1,
-        start: number(input, at, 1),
-        budgets,
-    }
+    let resumes = byte(input, at, 0) % 2 == 1;
+    let start = if resumes {
+        None
+    } else {
+        Some(number(input, at, 1))
+    };
+    Asked { start, budgets }
 }
 
 // Comparing.
 
-fn refused(session: Session, so_far: Replayed) -> Called {
-    Called {
-        session,
-        so_far: differs(so_far, 1),
-    }
-}
-
-fn compare_run(answer: RunAnswer, s: Session, input: &[u8], so_far: Replayed) -> Called {
+// The numbers of an outcome against those that are listed next; a refusal differs, and leaves the session as it was.
+fn compare_end(
+    answer: Result<Ended, Refusal>,
+    s: Session,
+    input: &[u8],
+    so_far: Replayed,
+) -> Called {
     match answer {
-        RunAnswer::Refused(_) => refused(s, so_far),
-        RunAnswer::Ran(end) => {
-            let outcome = end.outcome;
-            let session = end.session;
-            let numbers = numbers::run_numbers(outcome);
-            Called {
-                session,
-                so_far: compare(&numbers, input, so_far),
-            }
-        }
-    }
-}
-
-fn compare_drive(answer: DriveAnswer, s: Session, input: &[u8], so_far: Replayed) -> Called {
-    match answer {
-        DriveAnswer::Refused(_) => refused(s, so_far),
-        DriveAnswer::Drove(end) => {
-            let outcome = end.outcome;
-            let session = end.session;
-            let numbers = numbers::drive_numbers(outcome);
-            Called {
-                session,
-                so_far: compare(&numbers, input, so_far),
-            }
-        }
+        Ok(end) => Called {
+            session: end.session,
+            so_far: compare(&end.outcome, input, so_far),
+        },
+        Err(_) => Called {
+            session: s,
+            so_far: differs(so_far, 1),
+        },
     }
 }
 
@@ -86,16 +73,15 @@ fn live(room: &[u32], count: u32) -> &[u32] {
 
 // Compares a session and its live frames with those that are listed next; its depths there tell how many frames follow.
 fn compare_session(frames: &[u32], titles: &[u32], called: Called, input: &[u8]) -> Called {
-    let session = called.session;
     let so_far = called.so_far;
-    let numbers = numbers::session_numbers(session);
+    let numbers = numbers::session_numbers(called.session);
     let objects = 2 * half(input, so_far.next, 14);
     let entries = 3 * half(input, so_far.next, 18);
     let stands = compare(&numbers, input, so_far);
     let framed = compare(live(frames, objects), input, stands);
     Called {
-        session,
         so_far: compare(live(titles, entries), input, framed),
+        ..called
     }
 }
 
@@ -109,12 +95,16 @@ fn run_objects(
     file: &[u8],
     s: Session,
     a: Asked,
-) -> RunAnswer {
-    let budgets = a.budgets;
-    if a.resumes {
-        return mobj_runner::resume(gpr, psr, frames, titles, file, s, budgets);
-    }
-    mobj_runner::run(gpr, psr, frames, titles, file, s, a.start, budgets)
+) -> Result<Ended, Refusal> {
+    let end = match a.start {
+        Some(start) => mobj_runner::run(gpr, psr, frames, titles, file, s, start, a.budgets)?,
+        None => mobj_runner::resume(gpr, psr, frames, titles, file, s, a.budgets)?,
+    };
+    let outcome = numbers::run_numbers(end.outcome);
+    Ok(Ended {
+        session: end.session,
+        outcome,
+    })
 }
 
 fn run_titles(
@@ -126,12 +116,16 @@ fn run_titles(
     file: &[u8],
     s: Session,
     a: Asked,
-) -> DriveAnswer {
-    let budgets = a.budgets;
-    if a.resumes {
-        return nav_driver::resume(gpr, psr, frames, titles, index, file, s, budgets);
-    }
-    nav_driver::run(gpr, psr, frames, titles, index, file, s, a.start, budgets)
+) -> Result<Ended, Refusal> {
+    let end = match a.start {
+        Some(start) => nav_driver::run(gpr, psr, frames, titles, index, file, s, start, a.budgets)?,
+        None => nav_driver::resume(gpr, psr, frames, titles, index, file, s, a.budgets)?,
+    };
+    let outcome = numbers::drive_numbers(end.outcome);
+    Ok(Ended {
+        session: end.session,
+        outcome,
+    })
 }
 
 // The call that is listed next: 0 and 1 run and resume the runner, 2 and 3 the driver.
@@ -147,13 +141,12 @@ fn call(
     so_far: Replayed,
 ) -> Called {
     let a = read_call(input, so_far.next);
-    let told = onward(so_far, 11);
-    if byte(input, so_far.next, 0) < 2 {
-        let ran = run_objects(gpr, psr, frames, titles, file, s, a);
-        return compare_run(ran, s, input, told);
-    }
-    let drove = run_titles(gpr, psr, frames, titles, index, file, s, a);
-    compare_drive(drove, s, input, told)
+    let answer = if byte(input, so_far.next, 0) < 2 {
+        run_objects(gpr, psr, frames, titles, file, s, a)
+    } else {
+        run_titles(gpr, psr, frames, titles, index, file, s, a)
+    };
+    compare_end(answer, s, input, onward(so_far, 11))
 }
 
 // Makes the call or the player's write that is listed next, and compares what it leaves.
@@ -192,27 +185,22 @@ fn call_all(
 ) -> Replayed {
     let mut s = Session::new();
     let mut so_far = onward(start, 1);
-    let mut left = byte(input, start.next, 0);
-    while left > 0 {
+    for _ in 0..byte(input, start.next, 0) {
         let called = turn(gpr, psr, frames, titles, index, file, s, input, so_far);
-        let made = called.so_far;
         s = called.session;
-        so_far = replay_list::compare_registers(gpr, psr, input, made);
-        left -= 1;
+        so_far = replay_list::compare_registers(gpr, psr, input, called.so_far);
     }
     so_far
 }
 
 // Calls on fresh registers and frame rooms.
 fn replay_on(index: &[u8], file: &[u8], input: &[u8], so_far: Replayed) -> Replayed {
-    let fresh = Registers::new();
-    let mut gpr = fresh.gpr;
-    let mut psr = fresh.psr;
+    let mut fresh = Registers::new();
     let mut frames = [0u32; 2048];
     let mut titles = [0u32; 384];
     call_all(
-        &mut gpr,
-        &mut psr,
+        &mut fresh.gpr,
+        &mut fresh.psr,
         &mut frames,
         &mut titles,
         index,
@@ -238,10 +226,8 @@ fn replay_all(input: &[u8], cases: u32) -> Replayed {
         next: number(input, 2, 0),
         wrong: 0,
     };
-    let mut left = cases;
-    while left > 0 {
+    for _ in 0..cases {
         so_far = replay(input, so_far);
-        left -= 1;
     }
     so_far
 }

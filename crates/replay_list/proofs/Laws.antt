@@ -1,18 +1,15 @@
 -- Sums of 32 bits, differences counted one by one, and registers set one by one. Assumes nothing.
 use mathlib.Core.Path.{◌≡◌, refl, sym, ap, ◌∙◌, subst}
-use mathlib.Core.Bool.{true, false}
 use mathlib.Core.List.{List}
 use Prim.Native.Nat.{ℕ, ◌+◌, ◌*◌, ◌%◌, ◌^◌, ◌<◌}
 use native.Mathlib.Nat.{add-zero, add_assoc, mod-add-mod, mod-eq_of_lt}
 use native.Mathlib.Numerals.{add-one}
-use native.Mathlib.Omega.{arith}
-use lib.ListN.{length, get_or}
-use borrow.Author.Tests.{eq-eqb, ne_eqb}
+use lib.ListN.{length}
 use Rattle.word.specs.Word.{add_low}
-use Rattle.common.specs.Rules.{be2, be4}
-use Rattle.registers.specs.Rules.{Banks, banks, fresh_general, fresh_status, put_of}
+use Rattle.common.specs.Rules.{be2}
+use Rattle.registers.specs.Rules.{Banks, banks, fresh_general, fresh_status}
 use Rattle.replay_list.specs.declared.Replayed.{Replayed}
-use Rattle.replay_list.specs.Rules.{replayed, Same, apart, differing, listed_differences, compared, set_one, set_first, set_all, registers_end, bank_differences, banks_differences, compared_banks}
+use Rattle.replay_list.specs.Rules.{replayed, apart, differing, listed_differences, compared, set_one, set_first, set_all, registers_end, bank_differences, banks_differences, compared_banks}
 
 -- ---- sums of 32 bits
 
@@ -27,12 +24,6 @@ pub low_then : (a b c d : ℕ) {m n : ℕ} → m ≡ add_low a b → n ≡ add_l
 low_then a b c d was next e = rw was at next ∙ low_low a b c ∙ ap (add_low a) e
 
 -- ---- differences
-
-pub alike : {a b : List ℕ} → a ≡ b → Same a b true
-alike e = record { yes = λ _. e; no = λ f. let z : ◌≡◌ {A = ℕ} 0 1 = cc in absurd (omega arith) }
-
-pub unlike : {a b : List ℕ} → (a ≡ b → ⊥) → Same a b false
-unlike n = record { yes = λ f. let z : ◌≡◌ {A = ℕ} 0 1 = cc in absurd (omega arith); no = λ _. n }
 
 module _ (f g : ℕ → ℕ) (start : ℕ) where
   pub none_counted : start < 2 ^ 32 → start ≡ add_low start (differing f g 0)
@@ -54,17 +45,6 @@ unfolding compared
 all_compared got s r k e n w = told (rw e at n) (rw e at w)
 
 -- ---- registers
-
-module _ (s g p : List ℕ) (at : ℕ) {kind index value : ℕ} (k : kind ≡ get_or s (at + 0) 0) (i : index ≡ be2 s (at + 1)) (v : value ≡ be4 s (at + 3)) where
-  pub general_set : {m : List ℕ} → kind ≡ 0 → m ≡ put_of 4096 g index value → banks m p ≡ set_one s at (banks g p)
-  unfolding set_one
-  general_set h e =
-      rw (eq-eqb (get_or s at 0) 0 (sym (rw (add-zero at) at k) ∙ h), ← i, ← v, e)
-
-  pub status_set : {m : List ℕ} → (kind ≡ 0 → ⊥) → m ≡ put_of 128 p index value → banks g m ≡ set_one s at (banks g p)
-  unfolding set_one
-  status_set h e =
-      rw (ne_eqb (get_or s at 0) 0 (λ z. h (rw (add-zero at) at k ∙ z)), ← i, ← v, e)
 
 pub none_set : (s : List ℕ) (at : ℕ) (b : Banks) → b ≡ set_first s at 0 b
 unfolding set_first

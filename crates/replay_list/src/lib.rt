@@ -57,7 +57,7 @@ pub fn onward(start: Replayed, count: u32) -> Replayed
 {
     Replayed {
         next: word::add(start.next, count),
-        wrong: start.wrong,
+        ..start
     }
 }
 
@@ -73,8 +73,8 @@ pub fn differs(start: Replayed, count: u32) -> Replayed
     ensures { result ≡ differs_by start count }
 {
     Replayed {
-        next: start.next,
         wrong: word::add(start.wrong, count),
+        ..start
     }
 }
 
@@ -82,30 +82,19 @@ pub fn differs(start: Replayed, count: u32) -> Replayed
 pub fn same(a: &[u8], b: &[u8]) -> bool
     ensures { Same a.now b.now result }
 {
-    if a.len() != b.len() {
-        return false;
-    }
-    let mut i = 0;
-    while i < a.len() {
-        if a[i] != b[i] {
-            return false;
-        }
-        i += 1;
-    }
-    true
+    a == b
 }
 
 // Compares numbers with those that the list goes on with, four bytes each.
+#[tactic(auto, using(crate::proofs::Laws::low_zero, crate::proofs::Laws::low_then, crate::proofs::Laws::none_counted, crate::proofs::Laws::counted, crate::proofs::Laws::all_compared))]
 pub fn compare(got: &[u32], input: &[u8], start: Replayed) -> Replayed
     ensures { result ≡ compared got.now input.now start }
 {
     let mut next = start.next;
     let mut wrong = start.wrong;
-    let mut i = 0;
-    while i < got.len() {
-        wrong = word::add(wrong, apart(got[i], number(input, next, 0)));
+    for x in got {
+        wrong = word::add(wrong, apart(*x, number(input, next, 0)));
         next = word::add(next, 4);
-        i += 1;
     }
     Replayed { next, wrong }
 }
@@ -113,44 +102,44 @@ pub fn compare(got: &[u32], input: &[u8], start: Replayed) -> Replayed
 // Registers.
 
 // Counts the registers of a bank that differ from those expected, on from a start.
+#[tactic(auto, using(crate::proofs::Laws::none_counted, crate::proofs::Laws::counted))]
 fn compare_bank(got: &[u32], expected: &[u32], start: u32) -> u32
     ensures { result ≡ add_low start (bank_differences got.now expected.now) }
 {
     let mut wrong = start;
-    let mut i = 0;
-    while i < got.len() {
-        wrong = word::add(wrong, apart(got[i], number_at(expected, i)));
-        i += 1;
+    for (i, x) in got.iter().enumerate() {
+        wrong = word::add(wrong, apart(*x, number_at(expected, i)));
     }
     wrong
 }
 
 // Sets the register that is listed at a place: 0 general and else status, its number, and the value.
+#[tactic(auto, unfolding(crate::specs::Rules::set_one))]
 pub fn set_one(gpr: &mut [u32], psr: &mut [u32], input: &[u8], at: u32)
     ensures { banks gpr.new psr.new
         ≡ set_one input.now at (banks gpr.old psr.old) }
 {
     let index = half(input, at, 1) as u16;
     let value = number(input, at, 3);
-    if byte(input, at, 0) == 0 {
-        Registers::set_gpr(gpr, index, value);
-        return;
-    }
-    Registers::set_psr_player(psr, index, value);
+    // What a bank of another size answers is not told: it stays as it is.
+    let _ = if byte(input, at, 0) == 0 {
+        Registers::set_gpr(gpr, index, value)
+    } else {
+        Registers::set_psr_player(psr, index, value)
+    };
 }
 
 // Sets the registers that are listed at a place behind how many they are, and answers where the list goes on.
+#[tactic(auto, using(crate::proofs::Laws::low_then, crate::proofs::Laws::none_set, crate::proofs::Laws::one_more, crate::proofs::Laws::all_set))]
 pub fn set_all(gpr: &mut [u32], psr: &mut [u32], input: &[u8], at: u32) -> u32
     ensures { (banks gpr.new psr.new
         ≡ set_all input.now at (banks gpr.old psr.old)) × (result ≡ registers_end input.now at) }
 {
     let count = half(input, at, 0);
     let mut next = word::add(at, 2);
-    let mut k = 0;
-    while k < count {
+    for _ in 0..count {
         set_one(gpr, psr, input, next);
         next = word::add(next, 7);
-        k += 1;
     }
     next
 }

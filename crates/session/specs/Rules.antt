@@ -1,9 +1,7 @@
 -- Sessions, budgets and frames, and when they are refused (document 01, "Numbers and bounds"). Assumes nothing.
-use Rattle.std.specs.Prelude.{Bool, true, false, cond, not, ◌||◌, ◌&&◌, List, ℕ, zero, suc, ◌+◌, ◌*◌, ◌/◌, eqb, leb, ltb, length, get_or, set}
-use Rattle.error.specs.Rules.{refused_if}
+use Rattle.std.specs.Prelude.{Bool, true, false, cond, not, ◌||◌, ◌&&◌, List, ℕ, zero, suc, ◌+◌, ◌*◌, ◌/◌, eqb, leb, ltb, length, get_or, set, Ok}
+use Rattle.error.specs.Rules.{refused_if, Verdict}
 use Rattle.error.specs.declared.Refusal.TheVariants.{BadBuffer, BadBudget, BadSession, NotAnEntry}
-use Rattle.error.specs.declared.Verdict.{Verdict}
-use Rattle.error.specs.declared.Verdict.TheVariants.{Fine}
 use Rattle.session.specs.declared.Session.{Session}
 use Rattle.session.specs.declared.Budgets.{Budgets}
 use Rattle.session.specs.declared.ObjectFrame.{ObjectFrame}
@@ -82,4 +80,4 @@ unfoldable pub session_verdict : List ℕ → List ℕ → ℕ → Session → B
 session_verdict f t n s waits =
     cond (ltb (object_room f) s.odepth || ltb (title_room t) s.tdepth || ltb 65537 s.entry)
     (refused_if true BadSession)
-    (cond waits (live_verdict f t n s) Fine)
+    (cond waits (live_verdict f t n s) (Ok tt))

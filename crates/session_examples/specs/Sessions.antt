@@ -1,7 +1,6 @@
 -- Examples of sessions, budgets and frames (document 01, "Numbers and bounds"). Assumes nothing.
-use Rattle.std.specs.Prelude.{◌≡◌, refl, true, false, List, [], ◌∷◌, ℕ, set, replicate}
+use Rattle.std.specs.Prelude.{◌≡◌, refl, true, false, List, [], ◌∷◌, ℕ, set, replicate, Err, Ok}
 use Rattle.error.specs.declared.Refusal.TheVariants.{BadBuffer, BadBudget, BadSession, NotAnEntry}
-use Rattle.error.specs.declared.Verdict.TheVariants.{Fine, Refused}
 use Rattle.session.specs.Rules.{session, fresh, defaults, object_frame, pushed_object, title_frame, pushed_title, buffers_verdict, budgets_verdict, entry_verdict, objects_live, titles_live, live_verdict, session_verdict}
 
 -- A fresh one: 65,536, 0, 0, 0, 0, not pending.
@@ -13,39 +12,39 @@ pub default_budgets_shown : defaults ≡ record { steps = 1000000; objects = 100
 default_budgets_shown = refl
 
 -- Bad buffer: banks not 4,096 and 128 numbers. Frame room may be 0.
-pub no_frame_room : buffers_verdict (replicate 4096 0) (replicate 128 0) [] [] ≡ Fine
+pub no_frame_room : buffers_verdict (replicate 4096 0) (replicate 128 0) [] [] ≡ Ok tt
 unfolding buffers_verdict
 no_frame_room = refl
 
-pub status_bank_of_127 : buffers_verdict (replicate 4096 0) (replicate 127 0) [] [] ≡ Refused BadBuffer
+pub status_bank_of_127 : buffers_verdict (replicate 4096 0) (replicate 127 0) [] [] ≡ Err BadBuffer
 unfolding buffers_verdict
 status_bank_of_127 = refl
 
 -- Bad budget: a budget over its limit.
-pub budgets_at_the_limit : budgets_verdict defaults ≡ Fine
+pub budgets_at_the_limit : budgets_verdict defaults ≡ Ok tt
 unfolding budgets_verdict
 budgets_at_the_limit = refl
 
-pub objects_over_the_limit : budgets_verdict (record { steps = 0; objects = 100001; titles = 0 }) ≡ Refused BadBudget
+pub objects_over_the_limit : budgets_verdict (record { steps = 0; objects = 100001; titles = 0 }) ≡ Err BadBudget
 unfolding budgets_verdict
 objects_over_the_limit = refl
 
 -- Not an entry: over 65,537, which is the top menu.
-pub entry_65537 : entry_verdict 65537 ≡ Fine
+pub entry_65537 : entry_verdict 65537 ≡ Ok tt
 unfolding entry_verdict
 entry_65537 = refl
 
-pub entry_65538 : entry_verdict 65538 ≡ Refused NotAnEntry
+pub entry_65538 : entry_verdict 65538 ≡ Err NotAnEntry
 unfolding entry_verdict
 entry_65538 = refl
 
 -- Bad session: while pending, its object isn't on the disc; here of one object.
-pub pending_off_the_disc : session_verdict [] [] 1 (session 65536 1 0 0 0 true) true ≡ Refused BadSession
+pub pending_off_the_disc : session_verdict [] [] 1 (session 65536 1 0 0 0 true) true ≡ Err BadSession
 unfolding objects_live titles_live live_verdict session_verdict
 pending_off_the_disc = refl
 
 -- A depth exceeds its room: five numbers are two frames.
-pub depth_over_the_room : session_verdict (0 ∷ 0 ∷ 0 ∷ 0 ∷ 0 ∷ []) [] 1 (session 65536 0 0 3 0 false) false ≡ Refused BadSession
+pub depth_over_the_room : session_verdict (0 ∷ 0 ∷ 0 ∷ 0 ∷ 0 ∷ []) [] 1 (session 65536 0 0 3 0 false) false ≡ Err BadSession
 unfolding session_verdict
 depth_over_the_room = refl
 

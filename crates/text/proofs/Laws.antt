@@ -10,8 +10,8 @@ use lib.Dec.{ltb}
 use lib.ListN.{length, take, drop, get_or, set, length-append, length-set, drop_of_length-le}
 use lib.Seq.{sets, sets-eq, set_comm, set_out, take-suc, take_all, take_at, drop_at, drop-cons, length-take-le}
 use borrow.Author.Tests.{ltb-true}
-use Rattle.text.specs.Rules.{glyph_of, numeral, numeral_in, blanks, right_in, place, Wrote}
-use Rattle.text.specs.Laws.{near, then, sets_append, one_digit, more_digits, few_digits, less}
+use Rattle.text.specs.Rules.{glyph_of, numeral, numeral_in, blanks, place, Wrote}
+use Rattle.text.specs.Laws.{near, then, one_digit, more_digits, few_digits, less}
 
 -- a text that ends inside the room
 pub wrote : {l l' t : List ℕ} {at r : ℕ} → length l < 2 ^ 64 → at + length t ≤ length l → l' ≡ sets l at t → r ≡ at + length t → Wrote l at t l' r
@@ -28,18 +28,10 @@ byte_in l at b h g = wrote h (omega arith) refl refl
 pub byte_out : (l : List ℕ) (at b r : ℕ) → length l < 2 ^ 64 → length l ≤ at → r ≡ place (at + 1) → Wrote l at (b ∷ []) l r
 byte_out l at b r h g e = record { held = sym (set_out l at b g); end = e; room = h }
 
--- a turn of a copy, plain and tested
+-- a turn of a copy
 
 longer : (s : List ℕ) (i : ℕ) → i < length s → take (i + 1) s ≡ take i s ++ (get_or s i 0 ∷ [])
 longer s i h = ap (λ (n : ℕ). take n s) (add-one i) ∙ take-suc s i 0 h
-
-pub copied : (l m s : List ℕ) (at i : ℕ) → i < length s → m ≡ sets l at (take i s) → set m (at + i) (get_or s i 0) ≡ sets l at (take (i + 1) s)
-copied l m s at i h e =
-    let n : length (take i s) ≡ i = length-take-le i s (omega arith) in
-    ap (λ (x : List ℕ). set x (at + i) (get_or s i 0)) e
-    ∙ ap (λ (k : ℕ). sets (sets l at (take i s)) (at + k) (get_or s i 0 ∷ [])) (sym n)
-    ∙ sets_append (take i s) (get_or s i 0 ∷ []) l at
-    ∙ ap (sets l at) (sym (longer s i h))
 
 pub tested : (s : List ℕ) (i : ℕ) {l m l' : List ℕ} {at p r : ℕ} → i < length s → Wrote l at (take i s) m p → Wrote m p (get_or s i 0 ∷ []) l' r → Wrote l at (take (i + 1) s) l' r
 tested s i h a b = rw (longer s i h) (then a b)
@@ -166,12 +158,3 @@ fill_ends {k = suc j} h f = absurd (omega arith)
 pub at_start : (z m t : List ℕ) (k : ℕ) → m ≡ sets z 0 t → k ≡ length t → length t ≤ length z → take k m ≡ t
 at_start z m t k e h g =
     ap (take k) (e ∙ sets-eq t z 0 (omega arith)) ∙ take_at t (drop (0 + length t) z) k (sym h)
-
--- right-aligned
-pub right_short : (width : ℕ) (t : List ℕ) (k : ℕ) → k ≡ length t → k < width → right_in width t ≡ blanks (width - k) ++ t
-unfolding right_in
-right_short width t k e h = rw (← e)
-
-pub right_long : (width : ℕ) (t : List ℕ) (k : ℕ) → k ≡ length t → width ≤ k → right_in width t ≡ t
-unfolding right_in
-right_long width t k e h = let z : width - length t ≡ 0 = omega arith in rw z

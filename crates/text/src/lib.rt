@@ -5,15 +5,11 @@ ghost use Rattle.std.specs.Prelude.{◌≡◌, true, [], ◌∷◌, ◌+◌, ◌
 ghost use Rattle.std.proofs.lemmas.List.Edits.{sets};
 ghost use Rattle.text.specs.Rules.{glyph_of, numeral, blanks, right_in, place, Wrote};
 
-const LAST: usize = 0xFFFF_FFFF_FFFF_FFFF;
-
+#[tactic(auto, using(std::proofs::lemmas::Bool::Decides::nat_tests), unfolding(crate::specs::Rules::place))]
 fn after(at: usize, count: usize) -> usize
     ensures { result ≡ place (at + count) }
 {
-    if LAST - at < count {
-        return LAST;
-    }
-    at + count
+    at.saturating_add(count)
 }
 
 pub fn put_byte(out: &mut [u8], at: usize, byte: u8) -> usize
@@ -21,30 +17,24 @@ pub fn put_byte(out: &mut [u8], at: usize, byte: u8) -> usize
 {
     if at < out.len() {
         out[at] = byte;
-        return at + 1;
+        at + 1
+    } else {
+        after(at, 1)
     }
-    after(at, 1)
 }
 
 // Whether `count` bytes from a place on lie inside the room.
 fn has_room(room: usize, at: usize, count: usize) -> bool
     ensures { result ≡ true → at + count ≤ room }
 {
-    if at <= room {
-        return count <= room - at;
-    }
-    false
+    at <= room && count <= room - at
 }
 
 fn copy(out: &mut [u8], at: usize, bytes: &[u8])
     requires { at + length bytes.now ≤ length out.old }
     ensures { out.new ≡ sets out.old at bytes.now }
 {
-    let mut i = 0;
-    while i < bytes.len() {
-        out[at + i] = bytes[i];
-        i += 1;
-    }
+    out[at..at + bytes.len()].copy_from_slice(bytes);
 }
 
 // Byte by byte, for the end of the room.
@@ -52,10 +42,8 @@ fn put_tested(out: &mut [u8], at: usize, bytes: &[u8]) -> usize
     ensures { Wrote out.old at bytes.now out.new result }
 {
     let mut p = at;
-    let mut i = 0;
-    while i < bytes.len() {
-        p = put_byte(out, p, bytes[i]);
-        i += 1;
+    for byte in bytes {
+        p = put_byte(out, p, *byte);
     }
     p
 }
@@ -66,9 +54,10 @@ pub fn put(out: &mut [u8], at: usize, bytes: &[u8]) -> usize
 {
     if has_room(out.len(), at, bytes.len()) {
         copy(out, at, bytes);
-        return at + bytes.len();
+        at + bytes.len()
+    } else {
+        put_tested(out, at, bytes)
     }
-    put_tested(out, at, bytes)
 }
 
 fn glyph(digit: u32) -> u8
@@ -82,7 +71,7 @@ fn glyph(digit: u32) -> u8
     }
 }
 
-// How many digits a number has in a base; where that is a constant, short numbers are told by comparisons with constants.
+// How many digits a number has in a base; where that is a constant, short numbers are told by comparisons with constants (docs/BENCHMARKS.md).
 fn digits(base: u32, n: u32) -> usize
     requires { 1 < base }
     ensures { (result ≡ length (numeral base n)) × (result ≤ 32) }
@@ -105,7 +94,7 @@ fn digits(base: u32, n: u32) -> usize
     let mut count = 5;
     let mut left = four / base;
     while base <= left {
-        left = left / base;
+        left /= base;
         count += 1;
     }
     count
@@ -118,12 +107,10 @@ fn fill(out: &mut [u8], at: usize, count: usize, base: u32, n: u32)
     requires count_in_bounds { at + count ≤ length out.old }
     ensures { out.new ≡ sets out.old at (numeral base n) }
 {
-    let mut k = count;
     let mut left = n;
-    while 0 < k {
-        k -= 1;
+    for k in (0..count).rev() {
         out[at + k] = glyph(left % base);
-        left = left / base;
+        left /= base;
     }
 }
 
@@ -135,18 +122,19 @@ fn put_numeral(out: &mut [u8], at: usize, base: u32, n: u32) -> usize
     let count = digits(base, n);
     if has_room(out.len(), at, count) {
         fill(out, at, count, base, n);
-        return at + count;
+        at + count
+    } else {
+        let mut glyphs = [0; 32];
+        fill(&mut glyphs, 0, count, base, n);
+        put_tested(out, at, &glyphs[..count])
     }
-    let mut glyphs = [0u8; 32];
-    fill(&mut glyphs, 0, count, base, n);
-    put_tested(out, at, &glyphs[..count])
 }
 
 // A number in decimal.
 pub fn put_decimal(out: &mut [u8], at: usize, n: u16) -> usize
     ensures { Wrote out.old at (numeral 10 n) out.new result }
 {
-    put_numeral(out, at, 10, n as u32)
+    put_numeral(out, at, 10, u32::from(n))
 }
 
 // A number in upper-case hex.
@@ -160,10 +148,8 @@ fn put_blanks(out: &mut [u8], at: usize, count: usize) -> usize
     ensures { Wrote out.old at (blanks count) out.new result }
 {
     let mut p = at;
-    let mut i = 0;
-    while i < count {
+    for _ in 0..count {
         p = put_byte(out, p, b' ');
-        i += 1;
     }
     p
 }
@@ -172,10 +158,7 @@ fn put_blanks(out: &mut [u8], at: usize, count: usize) -> usize
 pub fn put_right(out: &mut [u8], at: usize, n: u16, width: usize) -> usize
     ensures { Wrote out.old at (right_in width (numeral 10 n)) out.new result }
 {
-    let count = digits(10, n as u32);
-    if count < width {
-        let p = put_blanks(out, at, width - count);
-        return put_decimal(out, p, n);
-    }
-    put_decimal(out, at, n)
+    let missing = width.saturating_sub(digits(10, u32::from(n)));
+    let p = put_blanks(out, at, missing);
+    put_decimal(out, p, n)
 }

@@ -2,38 +2,35 @@
 use mathlib.Core.Path.{◌≡◌, refl, sym, ap, ◌∙◌}
 use mathlib.Core.Bool.{Bool, false}
 use mathlib.Core.List.{List, [], ◌∷◌, map}
-use Prim.Native.Nat.{ℕ, zero, suc, ◌+◌, ◌-◌, ◌*◌, ◌/◌, ◌%◌, ◌≤◌, ◌<◌}
+use Prim.Native.Nat.{ℕ, zero, suc, ◌+◌, ◌-◌, ◌≤◌, ◌<◌}
 use native.Mathlib.Nat.{add_assoc}
 use native.Mathlib.Omega.{arith}
-use lib.ListN.{length, get_or, get_or-eq_default}
-use borrow.Author.Tests.{le-leb, lt-leb, ne_eqb}
+use lib.ListN.{length, get_or}
+use borrow.Author.Tests.{ne_eqb}
+use Rattle.std.specs.Prelude.{take, drop, Ok}
+use Rattle.std.proofs.Common.{add-one}
+use Rattle.laws.specs.Part.{part_cons}
+use Rattle.laws.specs.Table.{listed}
 use Rattle.common.specs.Rules.{be4}
-use Rattle.registers.proofs.Laws.{NoneOf, beyond, from_one, sets_nothing}
 use Rattle.nav_command.specs.Rules.{byte_at, group_bits, sub_of, groups, command_of, gotos, jumps, plays, compares}
 use Rattle.nav_command.specs.Rules as nav
-use Rattle.nav_command.proofs.Laws.{no_row, no_row_1}
-use Rattle.nav_command.specs.declared.CommandGroup.TheVariants.{Reserved}
+use Rattle.nav_command.proofs.Laws.{no_row_1}
 use Rattle.nav_command.specs.declared.Operand.{Operand}
 use Rattle.nav_command.specs.declared.Operation.{Operation}
 use Rattle.nav_command.specs.declared.Operation.TheVariants.{Compare, Unknown}
-use Rattle.nav_command.specs.declared.Operation.TheVariants as O
 use Rattle.vm.specs.declared.End.{End}
 use Rattle.vm.specs.declared.End.TheVariants.{Spent}
 use Rattle.vm.specs.declared.Next.{Next}
 use Rattle.vm.specs.declared.Next.TheVariants.{Go, Stop}
-use Rattle.registers.specs.declared.Raw.{Raw}
+use Rattle.registers.specs.Laws.{sets_nothing}
 use Rattle.registers.specs.Rules.{effect_for}
-use Rattle.registers.specs.Pieces.{set_in, meant}
 use Rattle.vm.specs.declared.Ran.{Ran}
 use Rattle.vm.specs.declared.Step.{Step}
 use Rattle.vm.specs.declared.Step.TheVariants.{Continue, Skipped, Halted, Branch}
 use Rattle.vm.specs.declared.Stepped.{Stepped}
-use Rattle.vm.specs.declared.Answer.TheVariants.{Done, Refused}
-use Rattle.error.specs.declared.Refusal.{Refusal}
-use Rattle.error.specs.declared.Verdict.{Verdict}
-use Rattle.error.specs.declared.Verdict.TheVariants as Fit
-use Rattle.vm.specs.Rules.{Banks, After, with, stepped, on, halted, exec_branch, holds_for, compare_of, system_of, exec_set, acted, exec_of, fetched, step_of, next_of, ran, goes_on_at, run_from, run_of, plain, plainly, answered}
-use Rattle.vm.specs.Pieces.{raw_first, raw_second, first_value, second_value, as_branch, as_compare, as_set, single}
+use Rattle.error.specs.Rules.{Verdict}
+use Rattle.vm.specs.Rules.{Banks, After, with, stepped, on, holds_for, exec_set, fetched, step_of, next_of, ran, goes_on_at, run_from, run_of, plain, plainly, answered}
+use Rattle.vm.specs.Pieces.{single}
 
 -- the operands' numbers
 module _ (cs : List ℕ) (at : ℕ) where
@@ -45,106 +42,33 @@ module _ (cs : List ℕ) (at : ℕ) where
   unfolding be4
   second_word = simp add_assoc
 
--- branch options past the last of a row, and rows past the last
-module _ (option : ℕ) where
-  pub past_gotos : NoneOf 0 3 option → nav.branch_of 0 option ≡ Unknown 0 option
-  unfolding nav.branch_of
-  past_gotos r = get_or-eq_default (map O.Branch gotos) (Unknown 0 option) {n = option} (beyond 0 3 option r (omega arith))
-
-  pub past_jumps : NoneOf 0 5 option → nav.branch_of 1 option ≡ Unknown 1 option
-  unfolding nav.branch_of
-  past_jumps r = get_or-eq_default (map O.Branch jumps) (Unknown 1 option) {n = option} (beyond 0 5 option r (omega arith))
-
-  pub past_plays : NoneOf 0 6 option → nav.branch_of 2 option ≡ Unknown 2 option
-  unfolding nav.branch_of
-  past_plays r = get_or-eq_default (map O.Branch plays) (Unknown 2 option) {n = option} (beyond 0 6 option r (omega arith))
-
-  pub past_rows : (sub : ℕ) → NoneOf 0 3 sub → nav.branch_of sub option ≡ Unknown sub option
-  unfolding nav.branch_of
-  past_rows sub r = sym (no_row nav.branch_rows sub option (Unknown sub option) (beyond 0 3 sub r (omega arith)))
-
--- compare codes and set codes that have no name
-module _ (code : ℕ) where
-  pub past_compares : NoneOf 1 7 code → nav.compare_of 0 code ≡ Unknown 0 code
-  unfolding nav.compare_of
-  past_compares r = from_one (map Compare compares) code (Unknown 0 code) (beyond 1 7 code r)
-
 -- whether a compare holds goes by its code alone
 code_alone : (d e : Operation) (x y : ℕ) (row : List Operation) (i : ℕ) → holds_for d x y ≡ holds_for e x y → holds_for (get_or row i d) x y ≡ holds_for (get_or row i e) x y
 code_alone d e x y [] i h = h
 code_alone d e x y (o ∷ row) zero h = refl
 code_alone d e x y (o ∷ row) (suc i) h = code_alone d e x y row i h
 
-any_sub : (sub code x y : ℕ) → holds_for (nav.compare_of 0 code) x y ≡ holds_for (nav.compare_of sub code) x y
+pub any_sub : (sub code x y : ℕ) → holds_for (nav.compare_of 0 code) x y ≡ holds_for (nav.compare_of sub code) x y
 unfolding nav.compare_of
 any_sub sub zero x y = refl
 any_sub sub (suc code) x y = code_alone (Unknown 0 (suc code)) (Unknown sub (suc code)) x y (map Compare compares) code refl
 
 -- sub-groups from 2 on have no Set that changes anything
-no_set : (sub code : ℕ) (a b : Operand) (x y pc : ℕ) (s : Banks) → 2 ≤ sub → with s (on pc) ≡ exec_set sub (nav.set_of sub code) a b x y pc s
+pub no_set : (sub code : ℕ) (a b : Operand) (x y pc : ℕ) (s : Banks) → 2 ≤ sub → with s (on pc) ≡ exec_set sub (nav.set_of sub code) a b x y pc s
 unfolding exec_set nav.set_of
 no_set sub code a b x y pc s h =
     let u : Unknown sub code ≡ nav.set_of sub code = no_row_1 nav.set_rows sub code (Unknown sub code) h in
-    rw (ne_eqb sub 1 (λ q. omega arith), ← sets_nothing (nav.set_of sub code) b x y s a (ap (λ o. effect_for o x y) (sym u)))
+    rw (ne_eqb sub 1 (λ q. omega arith), ← sets_nothing (nav.set_of sub code) a b x y s (ap (λ o. effect_for o x y) (sym u)))
 
--- One command.
-
--- the command of twelve bytes taken for one of its group, by what is read of it
-module _ (bytes : List ℕ) (pc : ℕ) (s : Banks) where
-  module _ {x y : ℕ} (p : x ≡ first_value bytes s) (q : y ≡ second_value bytes s) where
-    pub branched : (count : ℕ) {r : Stepped} → r ≡ exec_branch (nav.branch_of (sub_of bytes) (byte_at bytes 1 % 16)) x y pc count → r ≡ as_branch bytes pc count s
-    unfolding as_branch
-    branched count e = e ∙ rw (p, q)
-
-    pub compared : (count : ℕ) {h : Bool} {r : Stepped} → h ≡ holds_for (nav.compare_of 0 (byte_at bytes 2)) x y → r ≡ compare_of h pc count → r ≡ as_compare bytes pc count s
-    unfolding as_compare
-    compared count h e = e ∙ rw (h, any_sub (sub_of bytes) (byte_at bytes 2) x y, p, q)
-
-    pub asked : {r : Stepped} → sub_of bytes ≡ 1 → r ≡ system_of (nav.set_of 1 (byte_at bytes 3)) x y pc → with s r ≡ as_set bytes pc s
-    unfolding as_set exec_set
-    asked h e = rw (h, e, p, q)
-
-  pub changed : {a b : Raw} {t : Banks} {r : Stepped} → sub_of bytes ≡ 0 → a ≡ raw_first bytes → b ≡ raw_second bytes
-      → t ≡ set_in (nav.set_of 0 (byte_at bytes 3)) (meant a) (meant b) s → r ≡ on pc → with t r ≡ as_set bytes pc s
-  unfolding as_set exec_set
-  changed h f g e k = rw (h, k, e, f, g)
-
-  pub unchanged : {r : Stepped} → 2 ≤ sub_of bytes → r ≡ on pc → with s r ≡ as_set bytes pc s
-  unfolding as_set
-  unchanged h e = rw e (no_set (sub_of bytes) (byte_at bytes 3) (meant (raw_first bytes)) (meant (raw_second bytes)) (first_value bytes s) (second_value bytes s) pc s h)
-
--- the same command, by the bits of its group
-module _ (bytes : List ℕ) (pc count : ℕ) (s : Banks) where
-  pub by_branch : {r : Stepped} → group_bits bytes ≡ 0 → r ≡ as_branch bytes pc count s → with s r ≡ exec_of (command_of bytes) pc count s
-  unfolding exec_of acted command_of as_branch
-  by_branch k e = rw (k, e)
-
-  pub by_compare : {r : Stepped} → group_bits bytes ≡ 1 → r ≡ as_compare bytes pc count s → with s r ≡ exec_of (command_of bytes) pc count s
-  unfolding exec_of acted command_of as_compare
-  by_compare k e = rw (k, e)
-
-  pub by_set : {t : After Stepped} → group_bits bytes ≡ 2 → t ≡ as_set bytes pc s → t ≡ exec_of (command_of bytes) pc count s
-  unfolding exec_of acted command_of as_set
-  by_set k e = rw (k, e)
-
-  pub by_none : {r : Stepped} → 3 ≤ group_bits bytes → r ≡ on pc → with s r ≡ exec_of (command_of bytes) pc count s
-  unfolding exec_of acted command_of
-  by_none h e = rw (get_or-eq_default groups (Reserved (group_bits bytes)) {n = group_bits bytes} h, e)
+-- Runs.
 
 module _ (cs : List ℕ) (pc : ℕ) (s : Banks) where
-  -- a step past the end, and one that fetches
-  pub past_end : {r : Stepped} → length cs / 12 ≤ pc → r ≡ halted pc → with s r ≡ step_of cs pc s
-  unfolding step_of
-  past_end h e = rw (le-leb _ _ h, e)
-
-  pub obeys : {t : After Stepped} → pc < length cs / 12 → t ≡ exec_of (command_of (fetched cs (12 * pc))) (pc + 1) (length cs / 12) s → t ≡ step_of cs pc s
-  unfolding step_of
-  obeys h e = e ∙ rw (lt-leb _ _ h)
-
   -- a run that has no step left
-  pub spent : (left steps : ℕ) (skipped : Bool) → left ≡ 0 → with s (ran Spent pc steps skipped) ≡ run_from cs left steps skipped pc s
+  pub spent : {budget steps : ℕ} (skipped : Bool) → steps ≡ budget → with s (ran Spent pc budget skipped) ≡ run_from cs (budget - steps) steps skipped pc s
   unfolding run_from
-  spent left steps skipped h = rw h
+  spent {budget} {steps} skipped e =
+      let none : budget - steps ≡ 0 = omega arith in
+      rw (none, e)
 
   opened : (left steps : ℕ) (skipped : Bool)
       → run_from cs (suc left) steps skipped pc s ≡ goes_on_at (next_of (step_of cs pc s).answer.step) (step_of cs pc s) (steps + 1) (run_from cs left (steps + 1))
@@ -164,18 +88,11 @@ module _ (cs : List ℕ) (pc : ℕ) (s : Banks) where
     pub ends : {end : End} → next ≡ Stop end → with t.regs (ran end t.answer.pc (steps + 1) false) ≡ run_from cs (budget - steps) steps skipped pc s
     ends g = sym (rw g at turned)
 
--- what every turn of a run keeps: the run that is left is the run that was begun
-pub record Going (cs : List ℕ) (budget start : ℕ) (s₀ : Banks) (steps : ℕ) (skipped : Bool) (pc : ℕ) (s : Banks) : Type 0 where
-  pub run : run_from cs (budget - steps) steps skipped pc s ≡ run_of cs budget 0 start s₀
-  pub within : steps ≤ budget
-  pub general : length s.general ≡ length s₀.general
-  pub status : length s.status ≡ length s₀.status
-
-pub begins : (cs : List ℕ) (budget start : ℕ) (s : Banks) → Going cs budget start s 0 false start s
+pub begins : (cs : List ℕ) (budget start : ℕ) (s : Banks) → run_from cs (budget - 0) 0 false start s ≡ run_of cs budget 0 start s
 unfolding run_of
 begins cs budget start s =
     let all : budget - 0 ≡ budget = omega arith in
-    record { run = ap (λ left. run_from cs left 0 false start s) all; within = omega arith; general = refl; status = refl }
+    ap (λ left. run_from cs left 0 false start s) all
 
 -- The public calls.
 
@@ -203,10 +120,20 @@ runs_plainly t m e h = rw h (ap plainly e)
 
 -- an answer, by what the tests of the input found
 module _ {v w : Verdict} (s : Banks) (t : After Stepped) (e : v ≡ w) where
-  pub refused : {r : Refusal} → v ≡ Fit.Refused r → with s (Refused r) ≡ answered w s t
-  unfolding answered
-  refused h = rw (sym e ∙ h)
-
-  pub done : (u : After Stepped) → v ≡ Fit.Fine → u ≡ t → with u.regs (Done u.answer) ≡ answered w s t
+  pub done : (u : After Stepped) → v ≡ Ok tt → u ≡ t → with u.regs (Ok u.answer) ≡ answered w s t
   unfolding answered
   done u h d = rw (sym e ∙ h, d)
+
+-- what a part of a list holds, from the k-th of its elements on
+part_from : (s : List ℕ) (at n k : ℕ) → at + k + n ≤ length s → take n (drop (at + k) s) ≡ listed (λ i. get_or s (at + i) 0) k n
+part_from s at zero k h = refl
+part_from s at (suc n) k h =
+    rw (part_cons s (at + k) n (omega arith), add_assoc at k 1, add-one k)
+    (ap (λ l. get_or s (at + k) 0 ∷ l) (part_from s at n (suc k) (omega arith)))
+
+-- the bytes of a command
+pub twelve : (s : List ℕ) (at : ℕ) → at + 12 ≤ length s → take 12 (drop at s) ≡ fetched s at
+twelve s at h =
+    let e : at + 0 ≡ at = omega arith in
+    let p : take 12 (drop (at + 0) s) ≡ listed (λ i. get_or s (at + i) 0) 0 12 = part_from s at 12 0 (omega arith) in
+    rw e at p

@@ -1,6 +1,6 @@
 -- What follows from the rules of one command and of a run, for the layers above. Assumes nothing.
 use Rattle.std.proofs.Math.Path.{◌≡◌}
-use Rattle.std.specs.Prelude.{Bool, List, eqb, leb, length}
+use Rattle.std.specs.Prelude.{Bool, List, eqb, leb, length, Ok}
 use Rattle.std.proofs.Math.Bool.{true, false, cond}
 use Prim.Native.Nat.{ℕ, zero, suc, ◌+◌, ◌*◌, ◌/◌, ◌≤◌}
 use Rattle.std.proofs.Common.{arith}
@@ -13,7 +13,6 @@ use Rattle.registers.specs.Laws.{sized_set, fine_bank}
 use Rattle.registers.specs.Rules.{bank_of}
 use Rattle.error.specs.Rules.{first_of}
 use Rattle.error.specs.Laws.{both_fine}
-use Rattle.error.specs.declared.Verdict.TheVariants as Fit
 use Rattle.nav_command.specs.declared.BranchOp.{BranchOp}
 use Rattle.nav_command.specs.declared.BranchOp.TheVariants as B
 use Rattle.nav_command.specs.declared.CommandGroup.{CommandGroup}
@@ -47,7 +46,7 @@ one_answer =
 
 -- What the tests of the input tell where they pass: both banks have all their registers.
 
-pub fine_banks : (cs : List ℕ) (budget : ℕ) (s : Banks) → verdict_of cs budget s ≡ Fit.Fine → Sized 4096 128 s
+pub fine_banks : (cs : List ℕ) (budget : ℕ) (s : Banks) → verdict_of cs budget s ≡ Ok tt → Sized 4096 128 s
 fine_banks cs budget s h =
     let general = bank_of 4096 s.general in
     let status = bank_of 128 s.status in

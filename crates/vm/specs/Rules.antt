@@ -1,13 +1,12 @@
 -- What one command does, and a run of commands (document 01, "One command"). Assumes nothing.
-use Rattle.std.specs.Prelude.{Bool, true, false, cond, not, List, [], ◌∷◌, map, ℕ, zero, suc, ◌+◌, ◌*◌, ◌/◌, ◌%◌, eqb, leb, ltb, length, get_or}
+use Rattle.std.specs.Prelude.{Bool, true, false, cond, not, List, [], ◌∷◌, map, ℕ, zero, suc, ◌+◌, ◌*◌, ◌/◌, ◌%◌, eqb, leb, ltb, length, get_or, Result, Ok, Err}
 use Rattle.std.specs.Int.Bits.{bit_and}
 use Rattle.nav_command.specs.Rules.{command_of}
-use Rattle.error.specs.Rules.{first_of}
+use Rattle.error.specs.Rules.{Verdict, first_of}
+use Rattle.error.specs.declared.Refusal.{Refusal}
 use Rattle.error.specs.declared.Refusal.TheVariants.{BadBuffer, BadBudget}
 pub use Rattle.registers.specs.Rules.{Banks, banks, value_of, set_of}
 use Rattle.registers.specs.Rules.{refuses, bank_of}
-use Rattle.error.specs.declared.Verdict.{Verdict}
-use Rattle.error.specs.declared.Verdict.TheVariants as Fit
 use Rattle.nav_command.specs.declared.BranchOp.{BranchOp}
 use Rattle.nav_command.specs.declared.BranchOp.TheVariants as B
 use Rattle.nav_command.specs.declared.CompareOp.{CompareOp}
@@ -29,8 +28,6 @@ use Rattle.vm.specs.declared.Ran.{Ran}
 use Rattle.vm.specs.declared.Next.{Next}
 use Rattle.vm.specs.declared.Next.TheVariants.{Go, Stop}
 use Rattle.vm.specs.declared.HdmvVm.{HdmvVm}
-use Rattle.vm.specs.declared.Answer.{Answer}
-use Rattle.vm.specs.declared.Answer.TheVariants.{Done, Refused}
 
 -- what a call leaves: the banks, and its answer
 pub record After (A : Type 0) : Type 0 where
@@ -175,11 +172,11 @@ abbrev pub verdict_of : List ℕ → ℕ → Banks → Verdict
 verdict_of cs budget s =
     first_of (first_of (first_of (bank_of 4096 s.general) (bank_of 128 s.status)) (commands_of cs)) (budget_of budget)
 
-unfoldable pub answered : Verdict → Banks → After Stepped → After Answer
-answered Fit.Fine s t = with t.regs (Done t.answer)
-answered (Fit.Refused r) s t = with s (Refused r)
+unfoldable pub answered : Verdict → Banks → After Stepped → After (Result Stepped Refusal)
+answered (Ok u) s t = with t.regs (Ok t.answer)
+answered (Err r) s t = with s (Err r)
 
-unfoldable pub step_answer : List ℕ → ℕ → ℕ → Banks → After Answer
+unfoldable pub step_answer : List ℕ → ℕ → ℕ → Banks → After (Result Stepped Refusal)
 step_answer cs pc budget s = answered (verdict_of cs budget s) s (step_of cs pc s)
 
 -- a plain run doesn't say whether its steps were spent
@@ -191,5 +188,5 @@ plain (E.Branch q) = Branch q
 abbrev pub plainly : After Ran → After Stepped
 plainly t = with t.regs (stepped (plain t.answer.end) t.answer.pc)
 
-unfoldable pub run_answer : List ℕ → ℕ → ℕ → Banks → After Answer
+unfoldable pub run_answer : List ℕ → ℕ → ℕ → Banks → After (Result Stepped Refusal)
 run_answer cs pc budget s = answered (verdict_of cs budget s) s (plainly (run_of cs budget 0 pc s))

@@ -1,19 +1,18 @@
 // The command machine: one command, and a run of commands, on two lent banks of registers (the Rust's vm.rs).
 #![tactic(auto)]
 
-ghost use Rattle.std.specs.Prelude.{◌≡◌, ◌+◌, ◌*◌, ◌≤◌, ◌<◌, length};
-ghost use Rattle.register_model.specs.Rules.{class_table};
+ghost use Rattle.std.specs.Prelude.{◌≡◌, ◌+◌, ◌≤◌, length};
 ghost use Rattle.nav_command.specs.Rules.{command_of};
 ghost use Rattle.nav_command.specs.Rules as nav;
-ghost use Rattle.registers.specs.Laws.{Full};
+ghost use Rattle.registers.specs.Lent.{held, Same};
 ghost use Rattle.registers.specs.Rules.{banks};
 ghost use Rattle.vm.specs.Laws.{OneAnswer};
-ghost use Rattle.vm.specs.Rules.{after, on, halted, leaves, go_to, exec_branch, holds_for, compare_of, system_of, exec_of, fetched, step_of, next_of, run_of, fresh, commands_of, budget_of, verdict_of, step_answer, plain, run_answer};
-ghost use Rattle.vm.specs.Pieces.{raw_first, raw_second, first_value, second_value, as_branch, as_compare, as_set, single};
+ghost use Rattle.vm.specs.Rules.{after, with, on, halted, leaves, go_to, exec_branch, holds_for, compare_of, system_of, exec_of, fetched, step_of, next_of, run_of, fresh, commands_of, budget_of, verdict_of, step_answer, plain, run_answer};
+ghost use Rattle.vm.specs.Pieces.{raw_first, raw_second, as_branch, as_compare, as_set, single};
 
-use error::{Refusal, Verdict};
+use error::Refusal;
 use nav_command::Operation;
-use registers::{Raw, Registers};
+use registers::{Banks, Raw, Registers};
 
 // A transition that the machine hands to the player, with its operands' values.
 #[derive(Clone, Copy)]
@@ -37,7 +36,7 @@ pub enum NavRequest {
 }
 
 // What one command answers.
-#[derive(Drop)]
+#[derive(Clone, Copy)]
 pub enum Step {
     Continue,
     Skipped,
@@ -46,17 +45,10 @@ pub enum Step {
 }
 
 // What one command answers, and where the machine goes on.
-#[derive(Drop)]
+#[derive(Clone, Copy)]
 pub struct Stepped {
     pub step: Step,
     pub pc: usize,
-}
-
-// What the public calls answer.
-#[derive(Drop)]
-pub enum Answer {
-    Done(Stepped),
-    Refused(Refusal),
 }
 
 // Where a machine goes on, and how many steps a run may take.
@@ -67,7 +59,7 @@ pub struct HdmvVm {
 }
 
 // Why a run ended.
-#[derive(Drop)]
+#[derive(Clone, Copy)]
 pub enum End {
     Halted,
     Spent,
@@ -75,7 +67,7 @@ pub enum End {
 }
 
 // How a run ended, where it stopped, how many steps it took, and whether it was spent on a step that skipped a command.
-#[derive(Drop)]
+#[derive(Clone, Copy)]
 pub struct Ran {
     pub end: End,
     pub pc: usize,
@@ -84,7 +76,7 @@ pub struct Ran {
 }
 
 // Whether a run goes on after a step, and then whether the step skipped a command.
-#[derive(Drop)]
+#[derive(Clone, Copy)]
 enum Next {
     Go(bool),
     Stop(End),
@@ -123,40 +115,28 @@ fn go_to(target: u32, pc: usize, count: usize) -> Stepped
     ensures { result ≡ go_to target pc count }
 {
     let at = target as usize;
-    if at < count {
-        return go_on(at);
-    }
-    halt(pc)
+    if at < count { go_on(at) } else { halt(pc) }
 }
 
 // A branch by its sub-group and option; what has no name does nothing.
+#[tactic(auto, unfolding(nav_command::specs::Rules::branch_of))]
 fn branch(sub: u8, option: u8, x: u32, y: u32, pc: usize, count: usize) -> Stepped
     ensures { result ≡ exec_branch (nav.branch_of sub option) x y pc count }
 {
-    match sub {
-        0 => match option {
-            0 => go_on(pc),
-            1 => go_to(x, pc, count),
-            2 => halt(pc),
-            _ => go_on(pc),
-        },
-        1 => match option {
-            0 => leave(NavRequest::JumpObject(x), pc),
-            1 => leave(NavRequest::JumpTitle(x), pc),
-            2 => leave(NavRequest::CallObject(x), pc),
-            3 => leave(NavRequest::CallTitle(x), pc),
-            4 => leave(NavRequest::Resume, pc),
-            _ => go_on(pc),
-        },
-        2 => match option {
-            0 => leave(NavRequest::PlayPlayList(x), pc),
-            1 => leave(NavRequest::PlayPlayListAtPlayItem(x, y), pc),
-            2 => leave(NavRequest::PlayPlayListAtMark(x, y), pc),
-            3 => leave(NavRequest::TerminatePlayList, pc),
-            4 => leave(NavRequest::LinkPlayItem(x), pc),
-            5 => leave(NavRequest::LinkMark(x), pc),
-            _ => go_on(pc),
-        },
+    match (sub, option) {
+        (0, 1) => go_to(x, pc, count),
+        (0, 2) => halt(pc),
+        (1, 0) => leave(NavRequest::JumpObject(x), pc),
+        (1, 1) => leave(NavRequest::JumpTitle(x), pc),
+        (1, 2) => leave(NavRequest::CallObject(x), pc),
+        (1, 3) => leave(NavRequest::CallTitle(x), pc),
+        (1, 4) => leave(NavRequest::Resume, pc),
+        (2, 0) => leave(NavRequest::PlayPlayList(x), pc),
+        (2, 1) => leave(NavRequest::PlayPlayListAtPlayItem(x, y), pc),
+        (2, 2) => leave(NavRequest::PlayPlayListAtMark(x, y), pc),
+        (2, 3) => leave(NavRequest::TerminatePlayList, pc),
+        (2, 4) => leave(NavRequest::LinkPlayItem(x), pc),
+        (2, 5) => leave(NavRequest::LinkMark(x), pc),
         _ => go_on(pc),
     }
 }
@@ -164,6 +144,7 @@ fn branch(sub: u8, option: u8, x: u32, y: u32, pc: usize, count: usize) -> Stepp
 // Compares.
 
 // Whether a compare holds, by its code: Bc, Eq, Ne, Ge, Gt, Le, Lt; one that has no name holds.
+#[tactic(auto, unfolding(nav_command::specs::Rules::compare_of))]
 fn holds(code: u8, x: u32, y: u32) -> bool
     ensures { result ≡ holds_for (nav.compare_of 0 code) x y }
 {
@@ -180,21 +161,17 @@ fn holds(code: u8, x: u32, y: u32) -> bool
 }
 
 // A compare that fails skips the next command, if there is one.
+#[tactic(auto, unfolding(crate::specs::Rules::compare_of))]
 fn compare(held: bool, pc: usize, count: usize) -> Stepped
     ensures { result ≡ compare_of held pc count }
 {
     if held {
-        return go_on(pc);
-    }
-    if pc < count {
-        return Stepped {
+        go_on(pc)
+    } else {
+        Stepped {
             step: Step::Skipped,
-            pc: pc + 1,
-        };
-    }
-    Stepped {
-        step: Step::Skipped,
-        pc: count,
+            pc: if pc < count { pc + 1 } else { count },
+        }
     }
 }
 
@@ -202,15 +179,12 @@ fn compare(held: bool, pc: usize, count: usize) -> Stepped
 fn system(code: u8, x: u32, y: u32, pc: usize) -> Stepped
     ensures { result ≡ system_of (nav.set_of 1 code) x y pc }
 {
-    let op = nav_command::system_of(code);
-    leave(
-        NavRequest::SetSystem {
-            op,
-            operand1: x,
-            operand2: y,
-        },
-        pc,
-    )
+    let request = NavRequest::SetSystem {
+        op: nav_command::system_of(code),
+        operand1: x,
+        operand2: y,
+    };
+    leave(request, pc)
 }
 
 // The twelve bytes of a command.
@@ -218,24 +192,15 @@ pub fn fetch(commands: &[u8], at: usize) -> [u8; 12]
     requires { at + 12 ≤ length commands.now }
     ensures { result ≡ fetched commands.now at }
 {
-    [
-        commands[at],
-        commands[at + 1],
-        commands[at + 2],
-        commands[at + 3],
-        commands[at + 4],
-        commands[at + 5],
-        commands[at + 6],
-        commands[at + 7],
-        commands[at + 8],
-        commands[at + 9],
-        commands[at + 10],
-        commands[at + 11],
-    ]
+    let mut bytes = [0; 12];
+    bytes.copy_from_slice(&commands[at..at + 12]);
+    bytes
 }
 
 // One command: the twelve bytes at a place, one of `count` commands, with pc already past it.
+// `first` and `second` stay two: the three numbers in which they differ are all that they say.
 
+#[tactic(auto, using(crate::proofs::Laws::first_word))]
 fn first(commands: &[u8], at: usize) -> Raw
     requires { at + 12 ≤ length commands.now }
     ensures { result ≡ raw_first (fetched commands.now at) }
@@ -247,6 +212,7 @@ fn first(commands: &[u8], at: usize) -> Raw
     }
 }
 
+#[tactic(auto, using(crate::proofs::Laws::second_word))]
 fn second(commands: &[u8], at: usize) -> Raw
     requires { at + 12 ≤ length commands.now }
     ensures { result ≡ raw_second (fetched commands.now at) }
@@ -258,78 +224,46 @@ fn second(commands: &[u8], at: usize) -> Raw
     }
 }
 
-fn first_value(gpr: &[u32], psr: &[u32], commands: &[u8], at: usize) -> u32
-    requires { (at + 12 ≤ length commands.now) × Full gpr.now psr.now }
-    ensures { result ≡ first_value (fetched commands.now at) (banks gpr.now psr.now) }
-{
-    registers::value(gpr, psr, first(commands, at))
-}
-
-fn second_value(gpr: &[u32], psr: &[u32], commands: &[u8], at: usize) -> u32
-    requires { (at + 12 ≤ length commands.now) × Full gpr.now psr.now }
-    ensures { result ≡ second_value (fetched commands.now at) (banks gpr.now psr.now) }
-{
-    registers::value(gpr, psr, second(commands, at))
-}
-
-fn exec_branch(
-    gpr: &[u32],
-    psr: &[u32],
-    commands: &[u8],
-    at: usize,
-    pc: usize,
-    count: usize,
-) -> Stepped
-    requires { (at + 12 ≤ length commands.now) × Full gpr.now psr.now }
-    ensures { result ≡ as_branch (fetched commands.now at) pc count (banks gpr.now psr.now) }
+#[tactic(auto, unfolding(crate::specs::Pieces::as_branch))]
+fn exec_branch(banks: &Banks, commands: &[u8], at: usize, pc: usize, count: usize) -> Stepped
+    requires { at + 12 ≤ length commands.now }
+    ensures { result ≡ as_branch (fetched commands.now at) pc count (held banks.now) }
 {
     let sub = commands[at] % 8;
     let option = commands[at + 1] % 16;
-    let x = first_value(gpr, psr, commands, at);
-    let y = second_value(gpr, psr, commands, at);
+    let x = banks.value(first(commands, at));
+    let y = banks.value(second(commands, at));
     branch(sub, option, x, y, pc, count)
 }
 
-fn exec_compare(
-    gpr: &[u32],
-    psr: &[u32],
-    commands: &[u8],
-    at: usize,
-    pc: usize,
-    count: usize,
-) -> Stepped
-    requires { (at + 12 ≤ length commands.now) × Full gpr.now psr.now }
-    ensures { result ≡ as_compare (fetched commands.now at) pc count (banks gpr.now psr.now) }
+#[tactic(auto, using(crate::proofs::Laws::any_sub), unfolding(crate::specs::Pieces::as_compare))]
+fn exec_compare(banks: &Banks, commands: &[u8], at: usize, pc: usize, count: usize) -> Stepped
+    requires { at + 12 ≤ length commands.now }
+    ensures { result ≡ as_compare (fetched commands.now at) pc count (held banks.now) }
 {
     let code = commands[at + 2];
-    let x = first_value(gpr, psr, commands, at);
-    let y = second_value(gpr, psr, commands, at);
+    let x = banks.value(first(commands, at));
+    let y = banks.value(second(commands, at));
     compare(holds(code, x, y), pc, count)
 }
 
-fn exec_set(
-    gpr: &mut [u32],
-    psr: &mut [u32],
-    classes: &[u8],
-    commands: &[u8],
-    at: usize,
-    pc: usize,
-) -> Stepped
-    requires { (classes.now ≡ class_table) × (at + 12 ≤ length commands.now) × Full gpr.old psr.old }
-    ensures { after gpr.new psr.new result
-        ≡ as_set (fetched commands.now at) pc (banks gpr.old psr.old) }
+#[tactic(auto, using(crate::proofs::Laws::no_set), unfolding(crate::specs::Pieces::as_set, crate::specs::Rules::exec_set))]
+fn exec_set(banks: &mut Banks, commands: &[u8], at: usize, pc: usize) -> Stepped
+    requires { at + 12 ≤ length commands.now }
+    ensures same { Same banks.old banks.new }
+    ensures left { with (held banks.new) result ≡ as_set (fetched commands.now at) pc (held banks.old) }
 {
     let code = commands[at + 3];
     match commands[at] % 8 {
         0 => {
             let a = first(commands, at);
             let b = second(commands, at);
-            registers::set_registers(gpr, psr, classes, code, a, b);
+            banks.set(code, a, b);
             go_on(pc)
         }
         1 => {
-            let x = first_value(gpr, psr, commands, at);
-            let y = second_value(gpr, psr, commands, at);
+            let x = banks.value(first(commands, at));
+            let y = banks.value(second(commands, at));
             system(code, x, y, pc)
         }
         _ => go_on(pc),
@@ -337,39 +271,33 @@ fn exec_set(
 }
 
 // Each group reads the operands that it needs.
-fn exec(
-    gpr: &mut [u32],
-    psr: &mut [u32],
-    classes: &[u8],
-    commands: &[u8],
-    at: usize,
-    pc: usize,
-    count: usize,
-) -> Stepped
-    requires { (classes.now ≡ class_table) × (at + 12 ≤ length commands.now) × Full gpr.old psr.old }
-    ensures { after gpr.new psr.new result
-        ≡ exec_of (command_of (fetched commands.now at)) pc count (banks gpr.old psr.old) }
+#[tactic(auto, unfolding(crate::specs::Pieces::as_branch, crate::specs::Pieces::as_compare, crate::specs::Pieces::as_set, crate::specs::Rules::exec_of, crate::specs::Rules::acted, nav_command::specs::Rules::command_of))]
+fn exec(banks: &mut Banks, commands: &[u8], at: usize, pc: usize, count: usize) -> Stepped
+    requires { at + 12 ≤ length commands.now }
+    ensures same { Same banks.old banks.new }
+    ensures left { with (held banks.new) result
+        ≡ exec_of (command_of (fetched commands.now at)) pc count (held banks.old) }
 {
-    let head = commands[at];
-    match head / 8 % 4 {
-        0 => exec_branch(gpr, psr, commands, at, pc, count),
-        1 => exec_compare(gpr, psr, commands, at, pc, count),
-        2 => exec_set(gpr, psr, classes, commands, at, pc),
+    match commands[at] / 8 % 4 {
+        0 => exec_branch(banks, commands, at, pc, count),
+        1 => exec_compare(banks, commands, at, pc, count),
+        2 => exec_set(banks, commands, at, pc),
         _ => go_on(pc),
     }
 }
 
 // Fetches, advances and obeys; past the last command it halts.
-fn obey(gpr: &mut [u32], psr: &mut [u32], classes: &[u8], commands: &[u8], pc: usize) -> Stepped
-    requires { (classes.now ≡ class_table) × Full gpr.old psr.old }
-    ensures { after gpr.new psr.new result
-        ≡ step_of commands.now pc (banks gpr.old psr.old) }
+#[tactic(auto, unfolding(crate::specs::Rules::step_of))]
+fn obey(banks: &mut Banks, commands: &[u8], pc: usize) -> Stepped
+    ensures same { Same banks.old banks.new }
+    ensures left { with (held banks.new) result ≡ step_of commands.now pc (held banks.old) }
 {
     let count = commands.len() / 12;
-    if count <= pc {
-        return halt(pc);
+    if pc < count {
+        exec(banks, commands, 12 * pc, pc + 1, count)
+    } else {
+        halt(pc)
     }
-    exec(gpr, psr, classes, commands, 12 * pc, pc + 1, count)
 }
 
 // A run of commands.
@@ -386,36 +314,22 @@ fn what_next(step: Step) -> Next
 }
 
 // Steps from a place on until the machine halts, asks for a transition or has spent its budget.
-pub fn run_commands(
-    gpr: &mut [u32],
-    psr: &mut [u32],
-    classes: &[u8],
-    commands: &[u8],
-    pc: usize,
-    budget: u32,
-) -> Ran
-    requires { (classes.now ≡ class_table) × (length gpr.old ≡ 4096) × (length psr.old ≡ 128) }
-    ensures { after gpr.new psr.new result
-        ≡ run_of commands.now budget 0 pc (banks gpr.old psr.old) }
+pub fn run_commands(banks: &mut Banks, commands: &[u8], pc: usize, budget: u32) -> Ran
+    ensures same { Same banks.old banks.new }
+    ensures left { with (held banks.new) result ≡ run_of commands.now budget 0 pc (held banks.old) }
 {
     let mut at = pc;
-    let mut steps = 0;
     let mut skipped = false;
-    while steps < budget {
-        let stepped = obey(gpr, psr, classes, commands, at);
-        steps += 1;
+    for steps in 0..budget {
+        let stepped = obey(banks, commands, at);
         at = stepped.pc;
-        let kind = stepped.step;
-        let next = what_next(kind);
-        match next {
-            Next::Go(skips) => {
-                skipped = skips;
-            }
+        match what_next(stepped.step) {
+            Next::Go(skips) => skipped = skips,
             Next::Stop(end) => {
                 return Ran {
                     end,
                     pc: at,
-                    steps,
+                    steps: steps + 1,
                     skipped: false,
                 };
             }
@@ -424,42 +338,43 @@ pub fn run_commands(
     Ran {
         end: End::Spent,
         pc: at,
-        steps,
+        steps: budget,
         skipped,
     }
 }
 
 // The public calls.
 
-fn check_commands(commands: &[u8]) -> Verdict
+#[tactic(auto, unfolding(crate::specs::Rules::commands_of))]
+fn check_commands(commands: &[u8]) -> Result<(), Refusal>
     ensures { result ≡ commands_of commands.now }
 {
     registers::refuse_unless(Refusal::BadBuffer, commands.len() % 12 == 0)
 }
 
-fn check_budget(budget: u32) -> Verdict
+#[tactic(auto, unfolding(crate::specs::Rules::budget_of))]
+fn check_budget(budget: u32) -> Result<(), Refusal>
     ensures { result ≡ budget_of budget }
 {
     registers::refuse_unless(Refusal::BadBudget, budget <= HdmvVm::STEP_BUDGET)
 }
 
-fn check(gpr: &[u32], psr: &[u32], commands: &[u8], budget: u32) -> Verdict
+fn check(gpr: &[u32], psr: &[u32], commands: &[u8], budget: u32) -> Result<(), Refusal>
     ensures { result ≡ verdict_of commands.now budget (banks gpr.now psr.now) }
 {
-    registers::check_bank(Registers::GPR_COUNT, gpr)
-        .or_else(registers::check_bank(Registers::PSR_COUNT, psr))
-        .or_else(check_commands(commands))
-        .or_else(check_budget(budget))
+    registers::check_bank(Registers::GPR_COUNT, gpr)?;
+    registers::check_bank(Registers::PSR_COUNT, psr)?;
+    check_commands(commands)?;
+    check_budget(budget)
 }
 
-// A run by a class table of its own.
-fn run_fresh(gpr: &mut [u32], psr: &mut [u32], commands: &[u8], pc: usize, budget: u32) -> Ran
-    requires { Full gpr.old psr.old }
+// A run on two lent banks.
+fn run_on(gpr: &mut [u32], psr: &mut [u32], commands: &[u8], pc: usize, budget: u32) -> Ran
     ensures { after gpr.new psr.new result
         ≡ run_of commands.now budget 0 pc (banks gpr.old psr.old) }
 {
-    let classes = register_model::classes();
-    run_commands(gpr, psr, &classes, commands, pc, budget)
+    let mut banks = Banks { gpr, psr };
+    run_commands(&mut banks, commands, pc, budget)
 }
 
 // The answer of a run that took one step.
@@ -468,12 +383,8 @@ fn single_step(end: End, skipped: bool) -> Step
 {
     match end {
         End::Halted => Step::Halted,
-        End::Spent => {
-            if skipped {
-                return Step::Skipped;
-            }
-            Step::Continue
-        }
+        End::Spent if skipped => Step::Skipped,
+        End::Spent => Step::Continue,
         End::Branch(request) => Step::Branch(request),
     }
 }
@@ -483,8 +394,7 @@ fn plain_step(end: End) -> Step
     ensures { result ≡ plain end }
 {
     match end {
-        End::Halted => Step::Halted,
-        End::Spent => Step::Halted,
+        End::Halted | End::Spent => Step::Halted,
         End::Branch(request) => Step::Branch(request),
     }
 }
@@ -503,33 +413,31 @@ impl HdmvVm {
     }
 
     // Obeys the command at pc; past the last command it halts.
-    pub fn step(self, gpr: &mut [u32], psr: &mut [u32], commands: &[u8]) -> Answer
+    #[tactic(auto, unfolding(crate::specs::Rules::step_answer, crate::specs::Rules::answered))]
+    pub fn step(self, gpr: &mut [u32], psr: &mut [u32], commands: &[u8]) -> Result<Stepped, Refusal>
         ensures { after gpr.new psr.new result
             ≡ step_answer commands.now self.pc self.budget (banks gpr.old psr.old) }
     {
-        let verdict = check(gpr, psr, commands, self.budget);
-        if let Verdict::Refused(refusal) = verdict {
-            return Answer::Refused(refusal);
-        }
-        let ran = run_fresh(gpr, psr, commands, self.pc, 1);
-        let end = ran.end;
-        let step = single_step(end, ran.skipped);
-        Answer::Done(Stepped { step, pc: ran.pc })
+        check(gpr, psr, commands, self.budget)?;
+        let ran = run_on(gpr, psr, commands, self.pc, 1);
+        Ok(Stepped {
+            step: single_step(ran.end, ran.skipped),
+            pc: ran.pc,
+        })
     }
 
     // Steps until the machine halts, asks for a transition or has spent its budget.
-    pub fn run(self, gpr: &mut [u32], psr: &mut [u32], commands: &[u8]) -> Answer
+    #[tactic(auto, unfolding(crate::specs::Rules::run_answer, crate::specs::Rules::answered))]
+    pub fn run(self, gpr: &mut [u32], psr: &mut [u32], commands: &[u8]) -> Result<Stepped, Refusal>
         ensures { after gpr.new psr.new result
             ≡ run_answer commands.now self.pc self.budget (banks gpr.old psr.old) }
     {
-        let verdict = check(gpr, psr, commands, self.budget);
-        if let Verdict::Refused(refusal) = verdict {
-            return Answer::Refused(refusal);
-        }
-        let ran = run_fresh(gpr, psr, commands, self.pc, self.budget);
-        let end = ran.end;
-        let step = plain_step(end);
-        Answer::Done(Stepped { step, pc: ran.pc })
+        check(gpr, psr, commands, self.budget)?;
+        let ran = run_on(gpr, psr, commands, self.pc, self.budget);
+        Ok(Stepped {
+            step: plain_step(ran.end),
+            pc: ran.pc,
+        })
     }
 }
 

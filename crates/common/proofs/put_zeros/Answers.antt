@@ -1,12 +1,12 @@
--- The loop lays one zero more over the buffer each turn (`over_grow`). Assumes nothing.
-use mathlib.Core.Path.{sym}
-use native.Mathlib.Omega.{arith}
-use lib.ListN.{length-replicate, replicate-append-replicate}
-use Rattle.laws.specs.Over.{over_nil, over_grow}
+-- The part of the buffer that is filled is a run of zeros laid over it (`put_mid_over`). Assumes nothing.
+use Rattle.std.proofs.Common.{◌≡◌, ◌∙◌, ap, arith, ℕ, ◌+◌, ◌-◌, length, take, drop, replicate, length-drop, length-take-le}
+use Rattle.std.proofs.lemmas.List.{length-replicate}
+use Rattle.laws.specs.Over.{put_mid_over}
 use Rattle.common.proofs.put_zeros.Goals as goal
 
-pub loop-i-init : goal.loop-i-init
-loop-i-init c = (omega arith, sym (over_nil _ _))
-
-pub loop-i-preserved : goal.loop-i-preserved
-loop-i-preserved c = let l = c in (omega arith, over_grow _ _ _ _ _ _ _ l.loop-i.invariant.1 (length-replicate _ _) (omega arith) (sym (replicate-append-replicate l.loop-i.i 1 0)))
+pub returns : goal.returns
+returns c =
+    let k = c.args.at + c.args.n - c.args.at in
+    let rest = drop c.args.at c.args.out.now in
+    let part : length (take k rest) ≡ c.args.n = length-take-le k rest (omega (arith, length-drop c.args.at c.args.out.now)) ∙ omega arith in
+    put_mid_over _ _ _ _ _ (c.fill.ensures.after (λ y e. e) ∙ ap (λ (i : ℕ). replicate i 0) part) (omega (arith, length-replicate {A = ℕ} c.args.n 0))

@@ -1,15 +1,17 @@
-use Rattle.std.proofs.Common.{sym, ◌∙◌}
-use Rattle.console.specs.Laws.{past_the_end}
-use Rattle.console.specs.Rules.{number_in}
+use Rattle.std.proofs.Common.{◌≡◌, true, false, get_or, arith}
+use Rattle.std.proofs.lemmas.Bool.Decides.{nat_tests}
+use Rattle.std.proofs.lemmas.Grind.{common_steps}
+use Rattle.console.specs.Rules.{is_digit, number_in}
 use Rattle.console.proofs.number_in.Goals as goal
 
-pub returns-then-word-at : goal.returns-then-word-at
-returns-then-word-at c = c.no_number.ensures ∙ sym (past_the_end _ _ c.if-word-at.true)
-
-pub returns-then-not-is_digit : goal.returns-then-not-is_digit
+pub returns-then-is_some_and : goal.returns-then-is_some_and
 unfolding number_in
-returns-then-not-is_digit c = rw (sym c.is_digit.ensures ∙ c.if-not-is_digit.true) c.no_number-then-not-is_digit.ensures
+returns-then-is_some_and c =
+    let one : is_digit (get_or c.args.word.now c.args.at 0) ≡ true = grind (arith, nat_tests, common_steps, c.is_some_and.ensures, c.get.ensures) in
+    rw one c.digits_from.ensures
 
-pub returns : goal.returns
+pub returns-else-is_some_and : goal.returns-else-is_some_and
 unfolding number_in
-returns c = rw (sym c.is_digit.ensures ∙ c.if-not-is_digit.false) c.digits_from.ensures
+returns-else-is_some_and c =
+    let none : is_digit (get_or c.args.word.now c.args.at 0) ≡ false = grind (arith, nat_tests, common_steps, c.is_some_and.ensures, c.get.ensures) in
+    rw none c.no_number.ensures

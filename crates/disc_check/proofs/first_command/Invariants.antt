@@ -1,10 +1,10 @@
-use mathlib.Core.Path.{◌≡◌}
-use Prim.Native.Nat.{◌-◌, ◌≤◌}
+use Rattle.std.proofs.Common.{◌≡◌, ◌-◌, ◌/◌, length}
+use Rattle.movie_object.specs.Rules.{count_of}
 use Rattle.disc_check.specs.Rules.{first_command}
 use Rattle.disc_check.proofs.first_command.Given as goal
 
+-- what is left of the search is the whole of it
 abbrev pub invariant-loop-k : goal.invariant-loop-k
-invariant-loop-k l = (l.k ≤ l.number) × (first_command l.index l.count l.commands (l.number - l.k) l.k ≡ first_command l.index l.count l.commands l.number 0)
-
-abbrev pub decreases-loop-k : goal.decreases-loop-k
-decreases-loop-k l = l.number - l.k
+invariant-loop-k l =
+    first_command l.disc.index (count_of l.disc.objects) l.commands (length l.commands / 12 - l.k) l.k
+    ≡ first_command l.disc.index (count_of l.disc.objects) l.commands (length l.commands / 12) 0

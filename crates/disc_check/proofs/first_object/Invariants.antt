@@ -1,10 +1,10 @@
-use mathlib.Core.Path.{◌≡◌}
-use Prim.Native.Nat.{◌-◌, ◌≤◌}
+use Rattle.std.proofs.Common.{◌≡◌, ◌-◌}
+use Rattle.movie_object.specs.Rules.{count_of}
 use Rattle.disc_check.specs.Rules.{first_object}
 use Rattle.disc_check.proofs.first_object.Given as goal
 
-abbrev pub invariant-loop-n : goal.invariant-loop-n
-invariant-loop-n l = (l.n ≤ l.count) × (first_object l.index l.file (l.count - l.n) l.n ≡ first_object l.index l.file l.count 0)
-
-abbrev pub decreases-loop-n : goal.decreases-loop-n
-decreases-loop-n l = l.count - l.n
+-- what is left of the search is the whole of it
+abbrev pub invariant-loop-object : goal.invariant-loop-object
+invariant-loop-object l =
+    first_object l.disc.index l.disc.objects (count_of l.disc.objects - l.object) l.object
+    ≡ first_object l.disc.index l.disc.objects (count_of l.disc.objects) 0

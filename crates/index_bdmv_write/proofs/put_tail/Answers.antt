@@ -7,6 +7,6 @@ pub returns-then-kind-eq1 : goal.returns-then-kind-eq1
 unfolding tail_bytes
 returns-then-kind-eq1 c = rw (eq-eqb _ _ c.if-kind-eq1.true) (hdmv_steps _ _ _ _ _ c.requires.0 c.put16.ensures c.put_zeros.ensures)
 
-pub returns : goal.returns
+pub returns-else-kind-eq1 : goal.returns-else-kind-eq1
 unfolding tail_bytes
-returns c = rw (ne_eqb _ _ c.if-kind-eq1.false) (bdj_steps _ _ _ _ _ c.requires.1 c.requires.0 c.put_bytes.ensures c.put_zeros-2.ensures)
+returns-else-kind-eq1 c = rw (ne_eqb _ _ c.if-kind-eq1.false) (bdj_steps _ _ _ _ _ c.requires.1 c.requires.0 c.put_bytes.ensures c.put_zeros-else-kind-eq1.ensures)

@@ -1,9 +1,8 @@
 -- The three calls that write, one after the other (`file_steps`). Assumes nothing.
-use mathlib.Core.Path.{refl}
-use native.Mathlib.Omega.{arith}
+use Rattle.std.proofs.Common.{refl, arith}
 use Rattle.common.specs.Laws.{left_is}
 use Rattle.index_bdmv_write.specs.Laws.{file_steps}
-use Rattle.index_bdmv_write.specs.Rules.{entries, size_of, titles_of}
+use Rattle.index_bdmv_write.specs.Rules.{size_of, titles_of}
 use Rattle.index_bdmv_write.proofs.write_file.Goals as goal
 
 pub put_head-requires : goal.put_head-requires
@@ -20,4 +19,4 @@ put_titles-requires c = (omega (arith, c.requires.fits, c.put_head.auto.out, c.p
 
 pub returns : goal.returns
 unfolding size_of titles_of
-returns c = let s = c in left_is (file_steps _ _ _ _ s.args.version s.args.app (entries s.args.kinds.now s.args.playbacks.now s.args.objects.now s.args.names.now) s.requires c.put_head.ensures c.put_special.ensures c.put_titles.ensures) refl
+returns c = left_is (file_steps _ _ _ _ c.args.version c.args.app _ c.requires c.put_head.ensures c.put_special.ensures c.put_titles.ensures) refl

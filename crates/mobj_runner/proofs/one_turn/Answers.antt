@@ -1,28 +1,17 @@
-use mathlib.Core.List.{List}
-use mathlib.Core.Path.{ap}
-use Prim.Native.Nat.{ℕ}
-use native.Mathlib.Omega.{arith}
-use borrow.Author.Rules.{rules}
+-- The pc stays below a bound of 32 bits (`run_within`); the turn is the definition with its parts put in. Assumes nothing.
+use Rattle.std.proofs.Common.{ap, arith, rules}
 use Rattle.vm.specs.declared.Ran.{Ran}
-use Rattle.mobj_runner.specs.Rules.{joined, turn_of}
-use Rattle.movie_object.specs.Laws.{commands_few}
-use Rattle.movie_object.specs.Rules.{commands_of}
 use Rattle.vm.specs.Laws.{run_within}
-use Rattle.vm.specs.Rules.{After, banks}
+use Rattle.vm.specs.Rules.{After}
+use Rattle.registers.specs.Lent.{held}
+use Rattle.mobj_runner.specs.Rules.{joined, turn_of}
 use Rattle.mobj_runner.proofs.one_turn.Goals as goal
-use Rattle.mobj_runner.proofs.one_turn.Goals.{After-struct_known-2-1}
 
--- where the turn begins, from the cast of its pc
-abbrev commands : After-struct_known-2-1 → List ℕ
-commands c = commands_of c.args.file.now c.args.s.object
+pub overflow_cast-here : goal.overflow_cast-here
+overflow_cast-here c =
+    let stays = run_within c.commands-commands.result.now 4294967295 c.args.steps 0 c.args.s.pc (held c.args.banks.now) (omega (arith, c.commands-commands.ensures.few)) (search rules) in
+    rw (ap (λ (t : After Ran). t.answer.pc) c.run_commands-ran.ensures.left) (record { fits = omega arith })
 
-pub overflow_cast-t : goal.overflow_cast-t
-overflow_cast-t c =
-    let few = commands_few c.args.file.now c.args.s.object c.requires.fine in
-    let stays = run_within (commands (goal.at.overflow_cast-t c).After-struct_known-2-1) 4294967295 c.args.steps 0 c.args.s.pc (banks c.args.gpr.now c.args.psr.now) (omega arith) (search rules) in
-    rw (ap (λ (t : After Ran). t.answer.pc) c.run_commands-ran.ensures, c.commands_at-commands.ensures)
-    (record { fits = omega arith })
-
-pub returns : goal.returns
+pub returns-clause-drove : goal.returns-clause-drove
 unfolding turn_of
-returns c = rw (← c.commands_at-commands.ensures, ← c.run_commands-ran.ensures, ← c.count_of-count.ensures, ← c.what_follows-next.ensures) (ap (joined _) c.act.ensures)
+returns-clause-drove c = rw (← c.commands-commands.ensures.part, ← c.run_commands-ran.ensures.left, ← c.count.ensures, ← c.what_follows.ensures) (ap (joined _) c.act.ensures)

@@ -1,20 +1,25 @@
--- The invariant: the place past k heads, and the table as far as it reaches. A turn is `walk_on`, and what `skip_alike` passes. Assumes nothing.
-use mathlib.Core.Path.{refl, sym, ◌∙◌}
-use Prim.Native.Nat.{◌+◌}
-use native.Mathlib.Omega.{arith}
-use Rattle.common.specs.Laws.{seek_to, seek_past}
-use Rattle.movie_object.specs.Laws.{walk_on, walk_stops, next_from, place_zero, filled_none}
+-- A turn is `walk_on`, and what `skip_alike` passes; a head that passes the end stops the walk. Assumes nothing.
+use Rattle.std.proofs.Common.{◌∙◌, sym, refl, arith}
+use Rattle.movie_object.specs.Laws.{walk_on, walk_stops, place_zero, filled_none, moved_to, moved_past, left_with}
 use Rattle.movie_object.specs.Rules.{next}
 use Rattle.movie_object.proofs.walk.Goals as goal
 
 pub loop-k-init : goal.loop-k-init
-loop-k-init c = (refl, record { passed = omega arith; here = c.requires.2 ∙ sym (place_zero _); inside = omega (arith, c.requires.1, c.requires.2); filled = filled_none _ _ })
+loop-k-init c = record { same = refl; walked = record { passed = omega arith; here = c.requires.2 ∙ sym (place_zero _); inside = omega (arith, c.requires.1, c.requires.2); filled = filled_none _ _ } }
 
-pub returns-in_default : goal.returns-in_default
-returns-in_default c = walk_stops c.loop-k.invariant.1 c.loop-k-test.true (seek_past c.args.file.now (next c.args.file.now c.loop-k.at) refl c.skip_object.ensures c.in_default.is)
+pub returns-in_err-skip_object : goal.returns-in_err-skip_object
+returns-in_err-skip_object c =
+    let w = walk_stops c.loop-k.invariant.walked c.loop-k-test.true (moved_past _ (next c.loop-k.r.buf.now c.loop-k.r.pos) _ c.skip_object.ensures.answer c.in_err-skip_object.was) in
+    rw (left_with _ c.from_residual.ensures.1, ← c.loop-k.invariant.same) w
 
 pub overflow_sub-size : goal.overflow_sub-size
-overflow_sub-size c = omega (arith, (seek_to c.args.file.now (next c.args.file.now c.loop-k.at) refl c.skip_object.ensures c.in-To.is).here, next_from c.args.file.now c.loop-k.at {b = c.loop-k.at + 2 + 2} refl refl)
+unfolding next
+overflow_sub-size c = omega (arith, c.in_ok-skip_object.ensures.here)
 
-pub skip_alike-passed-requires : goal.skip_alike-passed-requires
-skip_alike-passed-requires c = (c.requires.0, omega (arith, (seek_to c.args.file.now (next c.args.file.now c.loop-k.at) refl c.skip_object.ensures c.in-To.is).here, next_from c.args.file.now c.loop-k.at {b = c.loop-k.at + 2 + 2} refl refl), walk_on c.loop-k.invariant.1 c.loop-k-test.true c.put_place.ensures (seek_to c.args.file.now (next c.args.file.now c.loop-k.at) refl c.skip_object.ensures c.in-To.is).here (omega (arith, (seek_to c.args.file.now (next c.args.file.now c.loop-k.at) refl c.skip_object.ensures c.in-To.is).here, (seek_to c.args.file.now (next c.args.file.now c.loop-k.at) refl c.skip_object.ensures c.in-To.is).inside)))
+pub skip_alike-at-requires : goal.skip_alike-at-requires
+unfolding next
+skip_alike-at-requires c =
+    let s = c.skip_object.ensures.same in
+    let here = c.in_ok-skip_object.ensures.here in
+    let w = walk_on c.loop-k.invariant.walked c.loop-k-test.true c.put_place.ensures here (rw here (moved_to _ _ _ c.skip_object.ensures.answer c.in_ok-skip_object.was)) in
+    rw s (rw c.loop-k.invariant.same c.requires.0, omega (arith, here), w)

@@ -5,8 +5,8 @@ use Rattle.movie_object_list.proofs.put_count.Goals as goal
 
 pub returns-then-count-eq1 : goal.returns-then-count-eq1
 unfolding count_text
-returns-then-count-eq1 c = rw (eq-eqb _ _ c.if-count-eq1.true) (then c.put_decimal-p.ensures c.put.ensures)
+returns-then-count-eq1 c = rw (eq-eqb _ _ c.if-count-eq1.true) (then c.put_decimal-at.ensures c.put.ensures)
 
-pub returns : goal.returns
+pub returns-else-count-eq1 : goal.returns-else-count-eq1
 unfolding count_text
-returns c = rw (ne_eqb _ _ c.if-count-eq1.false) (then c.put_decimal-p.ensures c.put-2.ensures)
+returns-else-count-eq1 c = rw (ne_eqb _ _ c.if-count-eq1.false) (then c.put_decimal-at.ensures c.put-else-count-eq1.ensures)

@@ -4,4 +4,4 @@ use Rattle.movie_object_list.proofs.put_prefix.Goals as goal
 
 pub returns : goal.returns
 unfolding prefix_text
-returns c = then (then c.put-p.ensures c.put_right-q.ensures) c.put.ensures
+returns c = then (then c.put-at.ensures c.put_right-at.ensures) c.put.ensures

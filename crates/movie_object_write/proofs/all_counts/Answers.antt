@@ -1,13 +1,11 @@
-use mathlib.Core.Path.{sym}
-use native.Mathlib.Omega.{arith}
-use Rattle.laws.specs.Firsts.{below_none, below_more, below_not}
+-- What `all` tells of every count (`counts_judged`). Assumes nothing.
+use Rattle.std.proofs.Common.{◌≤◌, ◌<◌, rules}
+use Rattle.std.proofs.lemmas.Iterator.{cases_from_all, YieldsList-from_slice}
+use borrow.Author.Tests.{tests}
+use Rattle.movie_object_write.specs.Laws.{counts_judged}
 use Rattle.movie_object_write.proofs.all_counts.Goals as goal
 
-pub loop-k-init : goal.loop-k-init
-loop-k-init c = (omega arith, below_none _ _)
-
-pub loop-k-preserved : goal.loop-k-preserved
-loop-k-preserved c = (omega arith, below_more _ _ _ c.loop-k.invariant.1 c.if-counts-k-lt65536.true)
-
-pub returns-else-counts-k-lt65536 : goal.returns-else-counts-k-lt65536
-returns-else-counts-k-lt65536 c = sym (below_not _ _ c.loop-k.k _ c.loop-k-test.true c.if-counts-k-lt65536.false)
+pub returns : goal.returns
+returns c =
+    counts_judged _ _
+    (cases_from_all _ _ _ (λ x. x < 65536) (λ x. 65536 ≤ x) c.all.ensures.ran (YieldsList-from_slice c.args.counts.now cc) (λ x q k. search (rules, tests)) (λ x q k. search (rules, tests)))

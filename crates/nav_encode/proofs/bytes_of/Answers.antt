@@ -4,4 +4,17 @@ use Rattle.nav_encode.proofs.bytes_of.Goals as goal
 
 pub returns : goal.returns
 unfolding bytes_of
-returns c = rw (c.byte_of-8.ensures, c.byte_of-7.ensures, c.byte_of-6.ensures, c.byte_of-5.ensures, c.byte_of-4.ensures, c.byte_of-3.ensures, c.byte_of-2.ensures, c.byte_of.ensures, c.word_of-b.ensures, c.word_of-a.ensures, c.set_byte-set.ensures, c.compare_byte-compare.ensures, c.option_of.ensures.0, c.bit_of-2.ensures.0, c.bit_of.ensures.0, c.bits_of.ensures.0, c.code_of-code.ensures)
+returns c =
+    rw (
+      c.to_be_bytes-2.ensures,
+      c.word_of-2.ensures,
+      c.to_be_bytes.ensures,
+      c.word_of.ensures,
+      c.set_byte-set.ensures,
+      c.compare_byte-compare.ensures,
+      c.option_of.ensures.0,
+      c.bit_of-2.ensures.0,
+      c.bit_of.ensures.0,
+      c.bits_of.ensures.0,
+      c.code_of-code.ensures,
+    )

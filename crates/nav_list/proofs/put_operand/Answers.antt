@@ -3,10 +3,10 @@ use Rattle.nav_list.specs.Rules.{immediate_text, general_text}
 use Rattle.text.specs.Laws.{then}
 use Rattle.nav_list.proofs.put_operand.Goals as goal
 
-pub returns-then-kind-eq1 : goal.returns-then-kind-eq1
+pub returns-in-1 : goal.returns-in-1
 unfolding immediate_text
-returns-then-kind-eq1 c = rw c.if-kind-eq1.true (then c.put-p.ensures c.put_hex.ensures)
+returns-in-1 c = rw c.in-1.is (then c.put-p.ensures c.put_hex.ensures)
 
-pub returns-then-kind-eq2 : goal.returns-then-kind-eq2
+pub returns-in-2 : goal.returns-in-2
 unfolding general_text
-returns-then-kind-eq2 c = rw c.if-kind-eq2.true (then c.put-p-then-kind-eq2.ensures c.put_decimal.ensures)
+returns-in-2 c = rw c.in-2.is (then c.put-p-in-2.ensures c.put_decimal.ensures)

@@ -5,4 +5,4 @@ use Rattle.nav_list.proofs.put_unknown.Goals as goal
 
 pub returns : goal.returns
 unfolding unknown_text
-returns c = then c.put-p.ensures (then c.put_decimal-q.ensures (then c.put-r.ensures (then c.put_hex-s.ensures c.put.ensures)))
+returns c = then c.put-p.ensures (then (rw c.from.ensures at c.put_decimal-q.ensures) (then c.put-r.ensures (then (rw c.from-2.ensures at c.put_hex-s.ensures) c.put.ensures)))

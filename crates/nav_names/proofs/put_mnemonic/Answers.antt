@@ -1,5 +1,5 @@
 -- `put_mnemonic` writes the name of a number on the sheet, and nothing off it. Assumes nothing.
-use native.Mathlib.Omega.{arith}
+use Rattle.std.proofs.Common.{arith}
 use Rattle.nav_names.specs.Rules.{mnemonic}
 use Rattle.text.specs.Laws.{nothing}
 use Rattle.nav_names.proofs.put_mnemonic.Goals as goal

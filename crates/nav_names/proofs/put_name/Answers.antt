@@ -1,14 +1,8 @@
--- `put_name` goes by the class table: the class of a register says whether it has a name. Assumes nothing.
-use native.Mathlib.Omega.{arith}
-use Rattle.text.specs.Laws.{nothing}
-use Rattle.nav_names.proofs.Laws.{below, nameless, has_name, past_all}
+use Rattle.std.proofs.Common.{◌∙◌, arith}
+use Rattle.nav_names.proofs.Laws.{class_told, named_below}
 use Rattle.nav_names.proofs.put_name.Goals as goal
 
-pub returns-then-classes-i-eq3 : goal.returns-then-classes-i-eq3
-returns-then-classes-i-eq3 c = rw (nameless _ c.args.index c.requires c.if-i-classes.true c.if-classes-i-eq3.true) (nothing (omega arith) (omega arith))
-
 pub put_playback-requires : goal.put_playback-requires
-put_playback-requires c = (omega arith, below _ c.args.index c.requires c.if-i-classes.true, has_name _ c.args.index c.requires c.if-i-classes.true c.if-classes-i-eq3.false)
-
-pub returns : goal.returns
-returns c = rw (past_all _ c.args.index c.requires c.if-i-classes.false) (nothing (omega arith) (omega arith))
+put_playback-requires c =
+    let named = class_told _ _ _ c.psr_class.ensures c.is_reserved.ensures ∙ c.if-is_reserved.false in
+    (omega arith, named_below _ named, named)

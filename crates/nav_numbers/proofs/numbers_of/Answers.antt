@@ -10,9 +10,9 @@ returns c =
     c.operation_at-operation.ensures
     (rw c.be32.ensures at c.operand_at-a.ensures)
     (rw c.be32-2.ensures at c.operand_at-b.ensures)
-    c.wide.ensures
+    c.from.ensures
     c.group_kind.ensures
     c.group_value.ensures
-    c.wide-2.ensures
+    c.from-2.ensures
     c.flag_number.ensures
     c.flag_number-2.ensures

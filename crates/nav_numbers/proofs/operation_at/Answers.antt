@@ -9,15 +9,15 @@ returns c =
     rw (
       c.placed.ensures,
       c.either-at.ensures,
-      c.wide-4.ensures,
+      c.from-4.ensures,
       c.either-after.ensures,
       c.from_one-2.ensures,
       c.from_one.ensures,
       c.either-code.ensures,
-      c.wide-3.ensures,
+      c.from-3.ensures,
       c.either-other.ensures,
-      c.wide-2.ensures,
-      c.wide.ensures,
-      c.wide-sub.ensures,
+      c.from-2.ensures,
+      c.from.ensures,
+      c.from-sub.ensures,
     )
     (operation_place (c.args.low % 8) c.args.option c.args.compare c.args.set c.row_at-row.result (omega arith) (omega arith) (c.args.low / 8) c.row_at-row.ensures)

@@ -1,16 +1,12 @@
-use mathlib.Core.Path.{◌≡◌, ◌∙◌}
-use native.Mathlib.Omega.{arith}
-use borrow.Author.Rules.{rules}
-use Rattle.session.specs.Laws.{title_off, title_on}
-use Rattle.session.specs.Rules.{titles_live}
+use Rattle.std.proofs.Common.{◌∙◌, ◌&&◌, ltb, leb, refl, arith, rules}
+use Rattle.std.proofs.lemmas.Iterator.{YieldsList-from_range}
+use Rattle.std.proofs.lemmas.Iterator.Search.{all_from_yields_List}
+use borrow.Author.Tests.{tests}
+use Rattle.session.specs.Rules.{title_frame}
+use Rattle.session.specs.Laws.{titles_all}
 use Rattle.session.proofs.titles_live.Goals as goal
 
-pub returns-then-frame-count : goal.returns-then-frame-count
-returns-then-frame-count c = title_off _ _ _ c.loop-left-test.true c.read-frame.ensures c.if-frame-count.true ∙ c.loop-left.invariant.1
-
-pub loop-left-preserved : goal.loop-left-preserved
-loop-left-preserved c = (search rules, title_on _ _ _ c.loop-left-test.true c.read-frame.ensures c.if-frame-count.false ∙ c.loop-left.invariant.1)
-
 pub returns : goal.returns
-unfolding titles_live
-returns c = let none : c.loop-left.left ≡ 0 = omega arith in rw none at c.loop-left.invariant.1
+returns c =
+    all_from_yields_List (λ k. leb (title_frame c.args.titles.now k).entry 65537 && ltb (title_frame c.args.titles.now k).object c.args.count) _ _ _ c.all.ensures.ran (YieldsList-from_range 0 c.args.depth c.args.depth refl (omega arith)) (λ x b q k. search (rules, tests))
+    ∙ titles_all _ _ _

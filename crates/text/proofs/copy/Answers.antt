@@ -1,8 +1,9 @@
--- `copy` lays the bytes over the room: after i turns the first i of them stand there. Assumes nothing.
-use native.Mathlib.Omega.{arith}
-use lib.ListN.{length-set}
-use Rattle.text.proofs.Laws.{copied}
+-- The part that is written to is a run laid over the room, as stores one after the other are. Assumes nothing.
+use Rattle.std.proofs.Common.{◌∙◌, sym, arith}
+use Rattle.laws.specs.Over.{put_mid_over, sets_over}
 use Rattle.text.proofs.copy.Goals as goal
 
-pub loop-i-preserved : goal.loop-i-preserved
-loop-i-preserved c = (omega arith, copied c.args.out.now _ c.args.bytes.now c.args.at c.loop-i.i c.loop-i-test.true c.loop-i.invariant.1, simp length-set c.loop-i.invariant.2)
+pub returns : goal.returns
+returns c =
+    put_mid_over _ _ _ _ _ c.copy_from_slice.ensures.after (omega arith)
+    ∙ sym (sets_over c.args.bytes.now c.args.out.now c.args.at c.requires)

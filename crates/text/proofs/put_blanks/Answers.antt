@@ -1,12 +1,11 @@
--- `put_blanks` writes as many blanks as it was asked for: after i turns i of them stand there. Assumes nothing.
-use mathlib.Core.Path.{refl, ◌∙◌}
-use native.Mathlib.Omega.{arith}
+-- After i turns i blanks stand there. Assumes nothing.
+use Rattle.std.proofs.Common.{arith}
 use Rattle.text.specs.Laws.{nothing}
 use Rattle.text.proofs.Laws.{blanked}
 use Rattle.text.proofs.put_blanks.Goals as goal
 
-pub loop-i-init : goal.loop-i-init
-loop-i-init c = (omega arith, nothing (omega arith) (omega arith), refl)
+pub loop-init : goal.loop-init
+loop-init c = nothing (omega arith) (omega arith)
 
-pub loop-i-preserved : goal.loop-i-preserved
-loop-i-preserved c = (omega arith, blanked c.loop-i.i c.loop-i.invariant.1 c.put_byte-p.ensures, c.put_byte-p.auto.out ∙ c.loop-i.invariant.2)
+pub loop-preserved : goal.loop-preserved
+loop-preserved c = blanked c.loop.counter c.loop.invariant c.put_byte-p.ensures

@@ -1,12 +1,11 @@
--- `put_tested` writes byte by byte: after i turns the first i of them stand there. Assumes nothing.
-use mathlib.Core.Path.{refl, ◌∙◌}
-use native.Mathlib.Omega.{arith}
+-- Byte by byte: after i turns the first i of them stand there. Assumes nothing.
+use Rattle.std.proofs.Common.{arith}
 use Rattle.text.specs.Laws.{nothing}
 use Rattle.text.proofs.Laws.{tested}
 use Rattle.text.proofs.put_tested.Goals as goal
 
-pub loop-i-init : goal.loop-i-init
-loop-i-init c = (omega arith, nothing (omega arith) (omega arith), refl)
+pub loop-byte-init : goal.loop-byte-init
+loop-byte-init c = nothing (omega arith) (omega arith)
 
-pub loop-i-preserved : goal.loop-i-preserved
-loop-i-preserved c = (omega arith, tested c.args.bytes.now c.loop-i.i c.loop-i-test.true c.loop-i.invariant.1 c.put_byte-p.ensures, c.put_byte-p.auto.out ∙ c.loop-i.invariant.2)
+pub loop-byte-preserved : goal.loop-byte-preserved
+loop-byte-preserved c = tested c.args.bytes.now c.loop-byte.byte-index c.loop-byte-test.true c.loop-byte.invariant c.put_byte-p.ensures

@@ -1,11 +1,12 @@
-use Prim.Native.Nat.{◌-◌}
-use Rattle.vm.specs.Rules.{banks}
-use Rattle.vm.proofs.Laws.{Going}
+use Rattle.std.specs.Prelude.{◌≡◌, ◌-◌}
+use Rattle.registers.specs.Lent.{held, Same}
+use Rattle.vm.specs.Rules.{run_from, run_of}
 use Rattle.vm.proofs.run_commands.Given as goal
 
+-- the run that is left is the run that was begun
 abbrev pub invariant-loop-steps : goal.invariant-loop-steps
 invariant-loop-steps l =
-    Going l.commands l.budget l.pc (banks l.initial.gpr l.initial.psr) l.steps l.skipped l.at (banks l.gpr l.psr)
-
-abbrev pub decreases-loop-steps : goal.decreases-loop-steps
-decreases-loop-steps l = l.budget - l.steps
+    record {
+      same : Same l.fn.banks l.banks;
+      run : run_from l.commands (l.budget - l.steps) l.steps l.skipped l.at (held l.banks) ≡ run_of l.commands l.budget 0 l.fn.pc (held l.fn.banks);
+    }

@@ -1,7 +1,0 @@
--- What the write leaves, and its verdict's number. Assumes nothing.
-use Rattle.player_calls.specs.Rules.{set_call}
-use Rattle.mescjadro.proofs.player.mescjadro_set_psr_player.Goals as goal
-
-pub returns : goal.returns
-unfolding set_call
-returns c = rw (c.verdict_number.ensures, c.set_psr_player.ensures.0, c.set_psr_player.ensures.1)
