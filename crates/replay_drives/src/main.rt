@@ -2,6 +2,7 @@
 #![tactic(auto)]
 
 use error::Refusal;
+use nav_driver::DriveEnd;
 use registers::Registers;
 use replay_list::{Replayed, byte, compare, differs, half, number, onward};
 use session::{Budgets, Session};
@@ -27,6 +28,23 @@ struct Called {
 struct Ended {
     session: Session,
     outcome: [u32; 6],
+}
+
+// The two files of a disc.
+#[derive(Clone, Copy)]
+struct Disc<'a> {
+    index: &'a [u8],
+    file: &'a [u8],
+}
+
+// A disc, and the rooms that its calls are lent.
+#[derive(Drop)]
+struct Player<'a> {
+    disc: Disc<'a>,
+    gpr: &'a mut [u32],
+    psr: &'a mut [u32],
+    frames: &'a mut [u32],
+    titles: &'a mut [u32],
 }
 
 fn read_call(input: &[u8], at: u32) -> Asked {
@@ -71,27 +89,34 @@ fn live(room: &[u32], count: u32) -> &[u32] {
     if to <= room.len() { &room[0..to] } else { room }
 }
 
-// Compares a session and its live frames with those that are listed next; its depths there tell how many frames follow.
-fn compare_session(frames: &[u32], titles: &[u32], called: Called, input: &[u8]) -> Called {
-    let so_far = called.so_far;
-    let numbers = numbers::session_numbers(called.session);
-    let objects = 2 * half(input, so_far.next, 14);
-    let entries = 3 * half(input, so_far.next, 18);
-    let stands = compare(&numbers, input, so_far);
-    let framed = compare(live(frames, objects), input, stands);
-    Called {
-        so_far: compare(live(titles, entries), input, framed),
-        ..called
+impl Player<'_> {
+    // Compares a session and its live frames with those that are listed next; its depths there tell how many frames follow.
+    fn compare_session(&self, called: Called, input: &[u8]) -> Called {
+        let so_far = called.so_far;
+        let numbers = numbers::session_numbers(called.session);
+        let objects = 2 * half(input, so_far.next, 14);
+        let entries = 3 * half(input, so_far.next, 18);
+        let stands = compare(&numbers, input, so_far);
+        let framed = compare(live(self.frames, objects), input, stands);
+        Called {
+            so_far: compare(live(self.titles, entries), input, framed),
+            ..called
+        }
+    }
+
+    fn compare_registers(&self, input: &[u8], so_far: Replayed) -> Replayed {
+        replay_list::compare_registers(self.gpr, self.psr, input, so_far)
     }
 }
 
 // Calls.
 
+// On single rooms, not a player: a field that is read beside fields that are lent is not covered by the borrow checker.
 fn run_objects(
     gpr: &mut [u32],
     psr: &mut [u32],
     frames: &mut [u32],
-    titles: &[u32],
+    titles: &mut [u32],
     file: &[u8],
     s: Session,
     a: Asked,
@@ -107,118 +132,110 @@ fn run_objects(
     })
 }
 
-fn run_titles(
-    gpr: &mut [u32],
-    psr: &mut [u32],
-    frames: &mut [u32],
-    titles: &mut [u32],
-    index: &[u8],
-    file: &[u8],
-    s: Session,
-    a: Asked,
-) -> Result<Ended, Refusal> {
-    let end = match a.start {
-        Some(start) => nav_driver::run(gpr, psr, frames, titles, index, file, s, start, a.budgets)?,
-        None => nav_driver::resume(gpr, psr, frames, titles, index, file, s, a.budgets)?,
-    };
-    let outcome = numbers::drive_numbers(end.outcome);
-    Ok(Ended {
-        session: end.session,
-        outcome,
-    })
-}
-
-// The call that is listed next: 0 and 1 run and resume the runner, 2 and 3 the driver.
-fn call(
-    gpr: &mut [u32],
-    psr: &mut [u32],
-    frames: &mut [u32],
-    titles: &mut [u32],
-    index: &[u8],
-    file: &[u8],
-    s: Session,
-    input: &[u8],
-    so_far: Replayed,
-) -> Called {
-    let a = read_call(input, so_far.next);
-    let answer = if byte(input, so_far.next, 0) < 2 {
-        run_objects(gpr, psr, frames, titles, file, s, a)
-    } else {
-        run_titles(gpr, psr, frames, titles, index, file, s, a)
-    };
-    compare_end(answer, s, input, onward(so_far, 11))
-}
-
-// Makes the call or the player's write that is listed next, and compares what it leaves.
-fn turn(
-    gpr: &mut [u32],
-    psr: &mut [u32],
-    frames: &mut [u32],
-    titles: &mut [u32],
-    index: &[u8],
-    file: &[u8],
-    s: Session,
-    input: &[u8],
-    so_far: Replayed,
-) -> Called {
-    if byte(input, so_far.next, 0) == 4 {
-        replay_list::set_one(gpr, psr, input, word::add(so_far.next, 1));
-        return Called {
-            session: s,
-            so_far: onward(so_far, 8),
+impl Player<'_> {
+    fn run_titles(&mut self, s: Session, a: Asked) -> Result<Ended, Refusal> {
+        let end = match a.start {
+            Some(start) => self.run(s, start, a.budgets)?,
+            None => self.resume(s, a.budgets)?,
         };
+        let outcome = numbers::drive_numbers(end.outcome);
+        Ok(Ended {
+            session: end.session,
+            outcome,
+        })
     }
-    let called = call(gpr, psr, frames, titles, index, file, s, input, so_far);
-    compare_session(frames, titles, called, input)
-}
 
-// Makes the calls that are listed next, each from where the last left off, and compares all registers after each.
-fn call_all(
-    gpr: &mut [u32],
-    psr: &mut [u32],
-    frames: &mut [u32],
-    titles: &mut [u32],
-    index: &[u8],
-    file: &[u8],
-    input: &[u8],
-    start: Replayed,
-) -> Replayed {
-    let mut s = Session::new();
-    let mut so_far = onward(start, 1);
-    for _ in 0..byte(input, start.next, 0) {
-        let called = turn(gpr, psr, frames, titles, index, file, s, input, so_far);
-        s = called.session;
-        so_far = replay_list::compare_registers(gpr, psr, input, called.so_far);
+    fn run(&mut self, s: Session, start: u32, b: Budgets) -> Result<DriveEnd, Refusal> {
+        let Disc { index, file } = self.disc;
+        nav_driver::run(
+            self.gpr,
+            self.psr,
+            self.frames,
+            self.titles,
+            index,
+            file,
+            s,
+            start,
+            b,
+        )
     }
-    so_far
+
+    fn resume(&mut self, s: Session, b: Budgets) -> Result<DriveEnd, Refusal> {
+        let Disc { index, file } = self.disc;
+        nav_driver::resume(
+            self.gpr,
+            self.psr,
+            self.frames,
+            self.titles,
+            index,
+            file,
+            s,
+            b,
+        )
+    }
+
+    // The call that is listed next: 0 and 1 run and resume the runner, 2 and 3 the driver.
+    fn call(&mut self, s: Session, input: &[u8], so_far: Replayed) -> Called {
+        let a = read_call(input, so_far.next);
+        let answer = if byte(input, so_far.next, 0) < 2 {
+            let file = self.disc.file;
+            run_objects(self.gpr, self.psr, self.frames, self.titles, file, s, a)
+        } else {
+            self.run_titles(s, a)
+        };
+        compare_end(answer, s, input, onward(so_far, 11))
+    }
+
+    // Makes the call or the player's write that is listed next, and compares what it leaves.
+    fn turn(&mut self, s: Session, input: &[u8], so_far: Replayed) -> Called {
+        if byte(input, so_far.next, 0) == 4 {
+            replay_list::set_one(self.gpr, self.psr, input, word::add(so_far.next, 1));
+            return Called {
+                session: s,
+                so_far: onward(so_far, 8),
+            };
+        }
+        let called = self.call(s, input, so_far);
+        self.compare_session(called, input)
+    }
+
+    // Makes the calls that are listed next, each from where the last left off, and compares all registers after each.
+    fn call_all(&mut self, input: &[u8], start: Replayed) -> Replayed {
+        let mut s = Session::new();
+        let mut so_far = onward(start, 1);
+        for _ in 0..byte(input, start.next, 0) {
+            let called = self.turn(s, input, so_far);
+            s = called.session;
+            so_far = self.compare_registers(input, called.so_far);
+        }
+        so_far
+    }
 }
 
 // Calls on fresh registers and frame rooms.
-fn replay_on(index: &[u8], file: &[u8], input: &[u8], so_far: Replayed) -> Replayed {
+fn replay_on(disc: Disc, input: &[u8], so_far: Replayed) -> Replayed {
     let mut fresh = Registers::new();
     let mut frames = [0u32; 2048];
     let mut titles = [0u32; 384];
-    call_all(
-        &mut fresh.gpr,
-        &mut fresh.psr,
-        &mut frames,
-        &mut titles,
-        index,
-        file,
-        input,
-        so_far,
-    )
+    let mut player = Player {
+        disc,
+        gpr: &mut fresh.gpr,
+        psr: &mut fresh.psr,
+        frames: &mut frames,
+        titles: &mut titles,
+    };
+    player.call_all(input, so_far)
 }
 
 // A case: the place of its disc, and its calls.
 fn replay(input: &[u8], so_far: Replayed) -> Replayed {
-    let disc = number(input, so_far.next, 0);
-    let indexed = half(input, disc, 0);
-    let from = word::add(disc, 4);
+    let at = number(input, so_far.next, 0);
+    let indexed = half(input, at, 0);
+    let from = word::add(at, 4);
     let index = replay_list::part(input, from, indexed);
     let then = word::add(from, indexed);
-    let file = replay_list::part(input, then, half(input, disc, 2));
-    replay_on(index, file, input, onward(so_far, 4))
+    let file = replay_list::part(input, then, half(input, at, 2));
+    replay_on(Disc { index, file }, input, onward(so_far, 4))
 }
 
 fn replay_all(input: &[u8], cases: u32) -> Replayed {
