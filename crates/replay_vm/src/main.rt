@@ -8,6 +8,15 @@ use std::io;
 use std::io::{Input, Print};
 use vm::{HdmvVm, Stepped};
 
+// A machine, its commands, and the banks that it is lent.
+#[derive(Drop)]
+struct Bench<'a> {
+    machine: HdmvVm,
+    commands: &'a [u8],
+    gpr: &'a mut [u32],
+    psr: &'a mut [u32],
+}
+
 // Compares an answer with the five numbers and the pc that are listed next; the pc is 0 where it is refused.
 fn compare_answer(
     answer: Result<Stepped, Refusal>,
@@ -25,60 +34,49 @@ fn compare_answer(
     }
 }
 
-fn call(
-    gpr: &mut [u32],
-    psr: &mut [u32],
-    commands: &[u8],
-    machine: HdmvVm,
-    run: bool,
-) -> Result<Stepped, Refusal> {
-    if run {
-        machine.run(gpr, psr, commands)
-    } else {
-        machine.step(gpr, psr, commands)
+impl Bench<'_> {
+    fn call(&mut self, run: bool) -> Result<Stepped, Refusal> {
+        if run {
+            self.machine.run(self.gpr, self.psr, self.commands)
+        } else {
+            self.machine.step(self.gpr, self.psr, self.commands)
+        }
     }
-}
 
-// Makes the calls that are listed next, each from where the last left off.
-fn call_all(
-    gpr: &mut [u32],
-    psr: &mut [u32],
-    commands: &[u8],
-    first: HdmvVm,
-    input: &[u8],
-    start: Replayed,
-) -> Replayed {
-    let mut machine = first;
-    let mut so_far = onward(start, 1);
-    for _ in 0..byte(input, start.next, 0) {
-        let run = byte(input, so_far.next, 0) == 1;
-        let answer = call(gpr, psr, commands, machine, run);
-        (machine.pc, so_far) = compare_answer(answer, input, onward(so_far, 1));
+    // Makes the calls that are listed next, each from where the last left off.
+    fn call_all(&mut self, input: &[u8], start: Replayed) -> Replayed {
+        let mut so_far = onward(start, 1);
+        for _ in 0..byte(input, start.next, 0) {
+            let run = byte(input, so_far.next, 0) == 1;
+            let answer = self.call(run);
+            (self.machine.pc, so_far) = compare_answer(answer, input, onward(so_far, 1));
+        }
+        so_far
     }
-    so_far
 }
 
 // A case on banks that are all zero.
-fn replay_on(gpr: &mut [u32], psr: &mut [u32], input: &[u8], so_far: Replayed) -> Replayed {
+fn replay(input: &[u8], so_far: Replayed) -> Replayed {
+    let mut fresh = Registers::new();
     let at = so_far.next;
     let length = 12 * half(input, at, 0);
-    let first = HdmvVm {
+    let machine = HdmvVm {
         pc: number(input, at, 2) as usize,
         budget: number(input, at, 6),
     };
-    let from = replay_list::set_all(gpr, psr, input, word::add(at, 10));
-    let commands = replay_list::part(input, from, length);
+    let from = replay_list::set_all(&mut fresh.gpr, &mut fresh.psr, input, word::add(at, 10));
     let start = Replayed {
         next: word::add(from, length),
         ..so_far
     };
-    let made = call_all(gpr, psr, commands, first, input, start);
-    replay_list::compare_registers(gpr, psr, input, made)
-}
-
-fn replay(input: &[u8], so_far: Replayed) -> Replayed {
-    let mut fresh = Registers::new();
-    replay_on(&mut fresh.gpr, &mut fresh.psr, input, so_far)
+    let mut bench = Bench {
+        machine,
+        commands: replay_list::part(input, from, length),
+        gpr: &mut fresh.gpr,
+        psr: &mut fresh.psr,
+    };
+    let made = bench.call_all(input, start);
+    replay_list::compare_registers(&fresh.gpr, &fresh.psr, input, made)
 }
 
 fn replay_all(input: &[u8], cases: u32) -> Replayed {
