@@ -144,7 +144,7 @@ fn check_with(index: &[u8], file: &[u8], places: &mut [u32]) -> Result<DiscCheck
     Ok(first_object(&disc))
 }
 
-// Checks the two files of a disc: every command counts, whether or not a run would meet it.
+// Checks the two files of a disc: every command counts, whether or not a run would meet it. The table must stand in this frame.
 #[tactic(auto, using(mobj_runner::specs::Laws::count_small))]
 pub fn check(index: &[u8], file: &[u8]) -> Result<DiscCheck, Refusal>
     ensures { result ≡ check_of index.now file.now }

@@ -26,20 +26,14 @@ fn with_room<R: Env + Files + Print + Eprint>(rt: &R, room: &mut [u8]) -> io::Re
 }
 
 fn print_index(rt: &impl Print, file: &[u8]) -> io::Result<()> {
-    match read(file) {
-        Ok((index, found)) => print_found(rt, &index, found),
+    match Index::read(file) {
+        Ok(index) => print_found(rt, &index),
         Err(why) => println!(rt; "{}", Refused(why)),
     }
 }
 
-// The entries of a file, and what it holds beside them.
-fn read(file: &[u8]) -> Result<(Index, IndexBdmv), Refusal> {
-    let index = Index::read(file)?;
-    let found = IndexBdmv::parse(file)?;
-    Ok((index, found))
-}
-
-fn print_found(rt: &impl Print, index: &Index, found: IndexBdmv) -> io::Result<()> {
+fn print_found(rt: &impl Print, index: &Index) -> io::Result<()> {
+    let found = index.record();
     println!(rt; "version 0x{:08x}", found.version)?;
     print_app_info(rt, found.app_info)?;
     print!(rt; "first playback: ")?;

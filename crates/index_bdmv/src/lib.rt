@@ -168,7 +168,7 @@ fn parse_object(r: &mut Reader) -> Result<(), Refusal>
     }
 }
 
-// An index that is read; clauses see its bytes.
+// An index that is read; clauses see its bytes. Only `Drop`, since it is lent.
 #[derive(Drop)]
 pub struct Index<'a> {
     file: &'a [u8],
@@ -187,7 +187,15 @@ impl<'a> Index<'a> {
         ensures { result ≡ given (verdict_of file.now) file.now }
     {
         verdict(file)?;
-        Ok(Index { file })
+        Ok(Index::of(file))
+    }
+
+    // A file that was judged already.
+    pub fn of(file: &'a [u8]) -> Self
+        requires { verdict_of file.now ≡ Ok tt }
+        ensures { result ≡ file.now }
+    {
+        Index { file }
     }
 
     // The object that an entry leads to; first playback, top menu and titles alike.
@@ -221,7 +229,7 @@ impl<'a> Index<'a> {
 
     // What the file holds beside its titles.
     #[tactic(auto, using(crate::specs::Laws::long, crate::specs::Laws::number_in), unfolding(crate::specs::Rules::index_of))]
-    fn record(&self) -> IndexBdmv
+    pub fn record(&self) -> IndexBdmv
         ensures { result ≡ index_of self.now }
     {
         let start = self.start();

@@ -7,6 +7,7 @@ ghost use Rattle.lent.specs.Rules.{lengths_fit, verdict_number};
 
 use error::Refusal;
 
+// The number of a refusal; a call for C answers it, so that no `?` leads there.
 pub fn refused(why: Refusal) -> u32
     ensures { result ≡ number_of why }
 {

@@ -33,7 +33,7 @@ pub enum Follow {
     Ask(NavRequest),
 }
 
-// How a turn ends: with a session to go on from, or with an outcome. The session stands at the same place in both.
+// How a turn ends: with a session to go on from, or with an outcome. The session stands at the same place in both, which no ControlFlow has.
 #[derive(Clone, Copy)]
 pub enum Turn {
     Go(Session),
@@ -287,7 +287,7 @@ fn answer(
     Ok(begin(&mut banks, frames, &objects, s, start, b))
 }
 
-// Most discs have few objects: a small table of places serves them.
+// Most discs have few objects: a small table of places serves them. It must stand in this frame, so each drive chooses its own.
 #[tactic(auto, using(crate::specs::Laws::count_small))]
 fn answer_with_table(
     gpr: &mut [u32],

@@ -168,7 +168,7 @@ pub fn count_of(file: &[u8]) -> u32
     u32::from(be16(file, 76))
 }
 
-// A number into a table, where the table has such a place.
+// A number into a table, where the table has such a place. Tried: what `get_mut` leaves in the slice doesn't follow.
 fn put_place(places: &mut [u32], k: usize, at: u32)
     ensures { places.new ≡ set places.old k at }
 {
@@ -178,7 +178,7 @@ fn put_place(places: &mut [u32], k: usize, at: u32)
     }
 }
 
-// An object file that is read; clauses see its bytes.
+// An object file that is read; clauses see its bytes. Only `Drop`, since it is lent.
 #[derive(Drop)]
 pub struct Objects<'a> {
     file: &'a [u8],
@@ -197,15 +197,22 @@ impl<'a> Objects<'a> {
         ensures { result ≡ given (verdict_of file.now) file.now }
     {
         verdict(file)?;
-        Ok(Objects { file })
+        Ok(Objects::of(file))
+    }
+
+    // A file that was judged already.
+    pub fn of(file: &'a [u8]) -> Self
+        requires { verdict_of file.now ≡ Ok tt }
+        ensures { result ≡ file.now }
+    {
+        Objects { file }
     }
 
     // The number of objects.
-    #[tactic(auto, using(crate::specs::Laws::count_in), unfolding(crate::specs::Rules::count_of))]
     pub fn count(&self) -> u32
         ensures { result ≡ count_of self.now }
     {
-        u32::from(be16(self.file, 76))
+        count_of(self.file)
     }
 
     // Where the head of object n stands.
@@ -264,13 +271,21 @@ impl<'a> ObjectTable<'a> {
         ensures { result ≡ given (verdict_of file.now) file.now }
     {
         walk_places(file, places)?;
-        Ok(ObjectTable { file, places })
+        Ok(ObjectTable::of(file, places))
+    }
+
+    // A file that was judged already, and its table.
+    pub fn of(file: &'a [u8], places: &'a [u32]) -> Self
+        requires { (verdict_of file.now ≡ Ok tt) × Placed file.now places.now }
+        ensures { result ≡ file.now }
+    {
+        ObjectTable { file, places }
     }
 
     pub fn count(&self) -> u32
         ensures { result ≡ count_of self.now }
     {
-        Objects { file: self.file }.count()
+        count_of(self.file)
     }
 
     // The commands of object n; nothing where there is no such object.

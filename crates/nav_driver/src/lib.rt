@@ -49,7 +49,7 @@ pub enum Follow {
     End(DriveOutcome),
 }
 
-// How a title turn ends: with a session to go on from, or with an outcome. The session stands at the same place in both.
+// How a title turn ends: with a session to go on from, or with an outcome. The session stands at the same place in both, which no ControlFlow has.
 #[derive(Clone, Copy)]
 pub enum Turn {
     Go(Session),
@@ -69,7 +69,7 @@ pub enum Start {
     Here,
 }
 
-// A disc whose two files are read.
+// A disc whose two files are read. Only `Drop`, since it is lent.
 #[derive(Drop)]
 pub struct Disc<'a> {
     pub index: Index<'a>,
@@ -472,7 +472,7 @@ fn answer(
     Ok(begin(&mut banks, frames, titles, &disc, s, from, b))
 }
 
-// Most discs have few objects: a small table of places serves them.
+// Most discs have few objects: a small table of places serves them. It must stand in this frame, so each drive chooses its own.
 #[tactic(auto, using(mobj_runner::specs::Laws::count_small))]
 fn answer_with_table(
     gpr: &mut [u32],

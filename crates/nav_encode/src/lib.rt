@@ -12,7 +12,7 @@ use nav_command::{
     SystemOp,
 };
 
-// The place of an operation on its part of the code sheet; the listing counts by it too.
+// The place of an operation on its part of the code sheet, whose numbers these are; the listing counts by it too.
 pub fn branch_number(op: BranchOp) -> u8
     ensures { (result ≡ branch_number op) × (0 < result) × (result < 15) }
 {

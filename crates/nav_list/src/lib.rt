@@ -114,6 +114,7 @@ fn line_of(command: DecodedCommand) -> Line
 }
 
 // The numbers straight from the bytes, without a branch: those of random commands can't be predicted.
+// That twelve bytes are there is said of each call here, since a listing goes from place to place.
 fn line_at(file: &[u8], from: usize) -> Line
     requires { from + 12 ≤ length file.now }
     ensures { Lines (line_at file.now from) result }

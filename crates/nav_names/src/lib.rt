@@ -130,7 +130,7 @@ fn put_goto(out: &mut [u8], at: usize, number: u8) -> usize
     }
 }
 
-// The name of an operation, if its number is on the sheet.
+// The name of an operation, if its number is on the sheet. A match: over a table of texts the proof didn't close.
 pub fn put_mnemonic(out: &mut [u8], at: usize, number: u8) -> usize
     ensures { Wrote out.old at (mnemonic number) out.new result }
 {

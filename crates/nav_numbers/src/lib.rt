@@ -22,7 +22,7 @@ pub struct Pair {
     pub value: u32,
 }
 
-// An operation: its place on the sheet, and the sub-group and code of one that has none.
+// An operation: its place on the sheet, and the sub-group and code of one that has none. Numbers, since C is handed them.
 #[derive(Clone, Copy)]
 pub struct Place {
     pub number: u32,

@@ -17,7 +17,7 @@ use nav_numbers::{Pair, flag_number, operation_number, pair_of, unknown_of};
 use session::{Budgets, Session};
 use vm::{NavRequest, Step};
 
-// A request: its operation's place on the sheet, two operands, and the code of an unknown system request.
+// A request: its operation's place on the sheet, two operands, and the code of an unknown system request. Numbers, since C is handed them.
 #[derive(Clone, Copy)]
 pub struct Request {
     pub op: u32,

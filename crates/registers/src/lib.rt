@@ -10,7 +10,7 @@ ghost use Rattle.registers.specs.Pieces.{bank_for, applied_in, set_in, meant};
 
 use error::Refusal;
 
-// A fresh bank: 4,096 general registers beside 128 status registers, all zero.
+// A fresh bank: 4,096 general registers beside 128 status registers, all zero. Only `Drop`: nothing copies its 16 KiB.
 #[derive(Drop)]
 pub struct Registers {
     pub gpr: [u32; 4096],
@@ -25,7 +25,7 @@ pub struct Raw {
     pub word: u32,
 }
 
-// What a Set operation does: a value for its first operand, an exchange of both, or nothing.
+// What a Set operation does: a value for its first operand, an exchange of both, or nothing. No Option: an exchange writes no value of its own.
 #[derive(Clone, Copy)]
 enum Effect {
     Write(u32),
@@ -33,7 +33,7 @@ enum Effect {
     Nothing,
 }
 
-// The banks that commands work on.
+// The banks that commands work on. Only `Drop`, since they are lent to write to.
 #[derive(Drop)]
 pub struct Banks<'a> {
     pub gpr: &'a mut [u32],
@@ -58,7 +58,7 @@ fn index_of(word: u32) -> u16
     (word % 4096) as u16
 }
 
-// What a Set command makes of its operands' values, by its code: Move, Swap, Add and so on.
+// What a Set command makes of its operands' values, by its code in the file: Move, Swap, Add and so on.
 #[tactic(auto, unfolding(nav_command::specs::Rules::set_of))]
 fn compute(code: u8, x: u32, y: u32) -> Effect
     ensures { result ≡ effect_for (nav.set_of 0 code) x y }

@@ -370,7 +370,7 @@ fn put_id(objects: &mut [u16], at: usize, object: u16) {
     }
 }
 
-// Room for the entries of a record as the writer takes them, 302 at most.
+// Room for the entries of a record as the writer takes them, 302 at most. Only `Drop`: nothing copies it.
 #[derive(Drop)]
 struct Gathered {
     kinds: [u8; 302],

@@ -8,7 +8,7 @@ use std::io;
 use std::io::{Input, Print};
 use vm::{HdmvVm, Stepped};
 
-// A machine, its commands, and the banks that it is lent.
+// A machine, its commands, and the banks that it is lent to write to.
 #[derive(Drop)]
 struct Bench<'a> {
     machine: HdmvVm,

@@ -75,7 +75,7 @@ pub struct Ran {
     pub skipped: bool,
 }
 
-// Whether a run goes on after a step, and then whether the step skipped a command.
+// Whether a run goes on after a step, and then whether the step skipped a command. No ControlFlow: its names would say neither.
 #[derive(Clone, Copy)]
 enum Next {
     Go(bool),
@@ -118,7 +118,7 @@ fn go_to(target: u32, pc: usize, count: usize) -> Stepped
     if at < count { go_on(at) } else { halt(pc) }
 }
 
-// A branch by its sub-group and option; what has no name does nothing.
+// A branch by its sub-group and option in the file; what has no name does nothing.
 #[tactic(auto, unfolding(nav_command::specs::Rules::branch_of))]
 fn branch(sub: u8, option: u8, x: u32, y: u32, pc: usize, count: usize) -> Stepped
     ensures { result ≡ exec_branch (nav.branch_of sub option) x y pc count }
@@ -143,7 +143,7 @@ fn branch(sub: u8, option: u8, x: u32, y: u32, pc: usize, count: usize) -> Stepp
 
 // Compares.
 
-// Whether a compare holds, by its code: Bc, Eq, Ne, Ge, Gt, Le, Lt; one that has no name holds.
+// Whether a compare holds, by its code in the file: Bc, Eq, Ne, Ge, Gt, Le, Lt; one that has no name holds.
 #[tactic(auto, unfolding(nav_command::specs::Rules::compare_of))]
 fn holds(code: u8, x: u32, y: u32) -> bool
     ensures { result ≡ holds_for (nav.compare_of 0 code) x y }
@@ -187,7 +187,7 @@ fn system(code: u8, x: u32, y: u32, pc: usize) -> Stepped
     leave(request, pc)
 }
 
-// The twelve bytes of a command.
+// The twelve bytes of a command. That they are there is said of each call here, since the place goes on with every step.
 pub fn fetch(commands: &[u8], at: usize) -> [u8; 12]
     requires { at + 12 ≤ length commands.now }
     ensures { result ≡ fetched commands.now at }
@@ -198,7 +198,6 @@ pub fn fetch(commands: &[u8], at: usize) -> [u8; 12]
 }
 
 // One command: the twelve bytes at a place, one of `count` commands, with pc already past it.
-// `first` and `second` stay two: the three numbers in which they differ are all that they say.
 
 #[tactic(auto, using(crate::proofs::Laws::first_word))]
 fn first(commands: &[u8], at: usize) -> Raw
