@@ -68,6 +68,15 @@ abbrev Answer : Type 0 → Type 0
 Answer A = Result A Refusal × ℕ
 
 -- which way a test went, from the answer that it picked
+yes : {A : Type 0} (t : Bool) {x y z : A} → (y ≡ z → ⊥) → cond t x y ≡ z → (t ≡ true) × (x ≡ z)
+yes true n e = (refl, e)
+yes false n e = absurd (n e)
+
+no : {A : Type 0} (t : Bool) (y : A) {x z : A} → (x ≡ z → ⊥) → cond t x y ≡ z → t ≡ false
+no true y n e = absurd (n e)
+no false y n e = refl
+
+-- the same, of an answer beside the position after it
 module _ {A : Type 0} (v : A) (to at : ℕ) {m : Result A Refusal} {q : ℕ} where
   went : (t : Bool) {x : A} → ◌≡◌ {A = Answer A} (m, q) (cond t (Ok v, to) (Err BadBody, at)) → m ≡ Ok x → (t ≡ true) × (x ≡ v) × (q ≡ to)
   went true e f = let g = sym f ∙ ap (λ (a : Answer A). a.0) e in (refl, cc, ap (λ (a : Answer A). a.1) e)

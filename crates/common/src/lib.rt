@@ -212,5 +212,8 @@ pub fn put_bytes(out: &mut [u8], at: usize, src: &[u8])
     requires { at + length src.now ≤ length out.old }
     ensures { out.new ≡ over out.old at src.now }
 {
-    out[at..at + src.len()].copy_from_slice(src);
+    // Not `copy_from_slice`: of parts whose place is not known it becomes a call of `memmove`, a name that an embedder would have to bring.
+    for i in 0..src.len() {
+        out[at + i] = src[i];
+    }
 }

@@ -91,6 +91,29 @@ entries_made s at (suc n) h = rw (entries_made s at n (λ k p. h k (omega arith)
 
 -- ---- positions
 
+-- where a reader goes on behind a test, and what each answer tells
+unfoldable pub moved_as : Verdict → ℕ → Result ℕ Refusal
+moved_as (Ok u) p = Ok p
+moved_as (Err r) p = Err r
+
+pub moved_fine : (v : Verdict) (p q : ℕ) → v ≡ fine → q ≡ p → ◌≡◌ {A = Result ℕ Refusal} (Ok q) (moved_as v p)
+unfolding moved_as
+moved_fine v p q e h = rw (e, h)
+
+pub moved_bad : (v : Verdict) (p : ℕ) (w : Refusal) → v ≡ Err w → ◌≡◌ {A = Result ℕ Refusal} (Err w) (moved_as v p)
+unfolding moved_as
+moved_bad v p w e = rw e
+
+pub moved_to : (v : Verdict) (p : ℕ) {m : Result ℕ Refusal} {q : ℕ} → m ≡ moved_as v p → m ≡ Ok q → (v ≡ fine) × (q ≡ p)
+unfolding moved_as
+moved_to (Ok u) p e f = (refl, cc)
+moved_to (Err w) p e f = let z : ◌≡◌ {A = ℕ} 0 1 = cc in absurd (omega arith)
+
+pub moved_refused : (v : Verdict) (p : ℕ) {m : Result ℕ Refusal} {w : Refusal} → m ≡ moved_as v p → m ≡ Err w → v ≡ Err w
+unfolding moved_as
+moved_refused (Ok u) p e f = let z : ◌≡◌ {A = ℕ} 0 1 = cc in absurd (omega arith)
+moved_refused (Err u) p e f = cc
+
 -- what opening the Indexes answers: a reader of the same file behind their length, where their stated end is good
 abbrev pub Opened : List ℕ → Result Reader Refusal → Type 0
 Opened s (Ok r) = (stated_verdict s (start_of s) ≡ fine) × (r.buf.now ≡ s) × (r.pos ≡ start_of s + 4)

@@ -291,9 +291,8 @@ fn lead_at(index: &[u8], at: usize) -> Option<u16>
 fn asked(index: &[u8], entry: u32) -> Result<Index, Refusal>
     ensures { result ≡ given (first_of (verdict_of index.now) (is_entry entry)) index.now }
 {
-    let found = Index::read(index)?;
-    is_entry(entry)?;
-    Ok(found)
+    error::first_of(verdict(index), is_entry(entry))?;
+    Ok(Index::of(index))
 }
 
 fn is_entry(entry: u32) -> Result<(), Refusal>

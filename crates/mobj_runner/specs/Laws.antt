@@ -1,6 +1,6 @@
 -- How a drive of objects unrolls, and what its tests tell. Assumes nothing.
-use Rattle.std.specs.Prelude.{◌≡◌, ◌≤◌, Bool, List, eqb, get_or, length, Ok}
-use Rattle.std.proofs.Common.{sym, ap, arith, sub-one}
+use Rattle.std.specs.Prelude.{◌≡◌, ◌≤◌, Bool, List, eqb, get_or, length, Ok, Err}
+use Rattle.std.proofs.Common.{sym, ap, ◌∙◌, arith, sub-one}
 use Prim.Native.Nat.{ℕ, zero, suc, ◌-◌, ◌<◌}
 use Rattle.common.specs.Rules.{be2}
 use Rattle.laws.specs.Cases.{either_way}
@@ -13,6 +13,9 @@ use Rattle.mobj_runner.specs.declared.Follow.TheVariants.{Return, Jump, Call, As
 use Rattle.mobj_runner.specs.declared.Turn.{Turn}
 use Rattle.mobj_runner.specs.declared.Turn.TheVariants.{Go, Stop}
 use Rattle.mobj_runner.specs.Rules.{World, world, follows, returned, jumped, called, acted, turn_of, drive_of, ended, verdict_for}
+use Rattle.mobj_runner.specs.Pieces.{Settled}
+use Rattle.error.specs.Rules.{Verdict}
+use Rattle.error.specs.declared.Refusal.{Refusal}
 use Rattle.error.specs.Laws.{both_fine}
 use Rattle.session.specs.declared.Budgets.{Budgets}
 use Rattle.session.specs.Rules.{buffers_verdict}
@@ -51,6 +54,19 @@ module _ (file : List ℕ) (steps : ℕ) where
   unfolding drive_of
   drive_go zero w s r f e = absurd (turn_spent file steps w s (ap (λ (x : World Turn). x.it) (sym e)))
   drive_go (suc left) w s r f e = rw (← e, sub-one)
+
+-- a call that is refused settles nothing else
+pub settled_refused : {file places gpr psr frames : List ℕ} {answer expected : Verdict} {r : Refusal} → answer ≡ Err r
+    → expected ≡ Err r → Settled file places gpr psr frames answer expected
+settled_refused p q =
+    record {
+      judged = p ∙ sym q;
+      fine = λ h. let z : ◌≡◌ {A = ℕ} 0 1 = cc in absurd (omega arith);
+      placed = λ h. let z : ◌≡◌ {A = ℕ} 0 1 = cc in absurd (omega arith);
+      general = λ h. let z : ◌≡◌ {A = ℕ} 0 1 = cc in absurd (omega arith);
+      status = λ h. let z : ◌≡◌ {A = ℕ} 0 1 = cc in absurd (omega arith);
+      room = λ h. let z : ◌≡◌ {A = ℕ} 0 1 = cc in absurd (omega arith);
+    }
 
 -- what a call that is not refused has tested
 pub opened_room : (file titles : List ℕ) (b : Budgets) (pending : Bool) (w : World Session) → verdict_for file b titles pending w ≡ Ok tt → length w.frames ≤ 131073

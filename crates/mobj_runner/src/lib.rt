@@ -244,17 +244,17 @@ fn waits_for(s: Session, start: Start) -> bool
 
 // Tests what was handed in, in the order of the refusals, and reads the file, whose walk fills the table of places.
 #[tactic(auto, unfolding(crate::specs::Rules::verdict_for))]
-fn opened<'a>(
+fn opened<'a, 'p>(
     gpr: &[u32],
     psr: &[u32],
     frames: &[u32],
     titles: &[u32],
     file: &'a [u8],
-    places: &'a mut [u32],
+    places: &'p mut [u32],
     s: Session,
     pending: bool,
     b: Budgets,
-) -> Result<ObjectTable<'a>, Refusal>
+) -> Result<ObjectTable<'a, 'p>, Refusal>
     requires { count_of file.now ≤ length places.old }
     ensures { result ≡ given (verdict_for file.now b titles.now pending (world s (banks gpr.now psr.now) frames.now)) file.now }
 {

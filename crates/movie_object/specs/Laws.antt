@@ -5,7 +5,7 @@ use Rattle.std.specs.Prelude.{Bool, List, [], ℕ, zero, suc, ◌+◌, ◌*◌, 
 use Rattle.std.proofs.Math.Bool.{true, false, cond}
 use Rattle.std.proofs.Math.Dec.{leb}
 use borrow.Author.Tests.{le-leb, lt-leb, leb-true, leb-false, lt-ltb, le-ltb, ltb-true, ltb-false}
-use Rattle.common.specs.Rules.{be2, be4, seek_of, limit, header_of}
+use Rattle.common.specs.Rules.{be2, be4, seek_of, read_u16, limit, header_of}
 use Rattle.common.specs.Laws.{Headed, headed, header_fine}
 use Rattle.error.specs.declared.Refusal.{Refusal}
 use Rattle.error.specs.declared.Refusal.TheVariants.{BadBody}
@@ -40,6 +40,10 @@ place_after s n p e = rw (add-one n, e)
 pub next_from : (s : List ℕ) (p : ℕ) {b n : ℕ} → n ≡ be2 s (p + 2) → b ≡ p + 2 + 2 → b + 12 * n ≡ next s p
 unfolding next
 next_from s p en eb = omega (arith, en, eb)
+
+pub next_past : (s : List ℕ) (p q : ℕ) → length s < p + 4 → seek_of s q (next s p) ≡ (Err BadBody, q)
+unfolding next
+next_past s p q h = let l : length s < p + 4 + 12 * be2 s (p + 2) = omega arith in simp (lt-leb _ _ l)
 
 -- what the answer of a move to a place tells
 module _ (s : List ℕ) (p q : ℕ) {m : Verdict} where
@@ -124,6 +128,24 @@ count_in s v = omega (arith, (good s v).last, place_from s (count_of s))
 unfoldable pub count_read : List ℕ → Result ℕ Refusal
 count_read s = cond (leb (44 + be4 s 40) (length s)) (cond (leb 78 (length s)) (Ok (count_of s)) (Err BadBody)) (Err BadBody)
 
+-- how it is found
+module _ (s : List ℕ) where
+  pub count_read_is : (a : ℕ) → a ≡ 76 → 44 + be4 s 40 ≤ length s → read_u16 s a ≡ (count_read s, cond (leb 78 (length s)) 78 76)
+  unfolding count_read count_of
+  count_read_is a e h = simp (e, le-leb _ _ h) (pick (leb 78 (length s)))
+    where
+      pick : (b : Bool) → ◌≡◌ {A = Result ℕ Refusal × ℕ} (cond b (Ok (be2 s 76), 78) (Err BadBody, 76)) (cond b (Ok (be2 s 76)) (Err BadBody), cond b 78 76)
+      pick true = refl
+      pick false = refl
+
+  pub count_stated : length s < 44 + be4 s 40 → count_read s ≡ Err BadBody
+  unfolding count_read
+  count_stated h = simp (lt-leb _ _ h)
+
+  pub count_short : length s < 78 → count_read s ≡ Err BadBody
+  unfolding count_read
+  count_short h = simp (lt-leb _ _ h) (same (leb (44 + be4 s 40) (length s)) (Err BadBody))
+
 -- what it tells
 pub record Counted (s : List ℕ) (n : ℕ) : Type 0 where
   pub stated : 44 + be4 s 40 ≤ length s
@@ -140,14 +162,21 @@ module _ (s : List ℕ) where
       go true p false q h = let z : ◌≡◌ {A = ℕ} 0 1 = cc in absurd (omega arith)
       go false p b q h = let z : ◌≡◌ {A = ℕ} 0 1 = cc in absurd (omega arith)
 
-  pub verdict_uncounted : {m : Result ℕ Refusal} {w : Refusal} → header_of mobj s ≡ Ok tt → m ≡ count_read s → m ≡ Err w → verdict_of s ≡ Err w
+  -- and where a reader stands that has read it
+  pub counted_here : (a : ℕ) {n q : ℕ} → a ≡ 76 → 44 + be4 s 40 ≤ length s → ◌≡◌ {A = Result ℕ Refusal × ℕ} (Ok n, q) (read_u16 s a) → Counted s n × (q ≡ 78)
+  counted_here a {n} {q} e h t =
+      let u : ◌≡◌ {A = Result ℕ Refusal × ℕ} (Ok n, q) (count_read s, cond (leb 78 (length s)) 78 76) = t ∙ count_read_is s a e h in
+      let c = counted (ap (λ (x : Result ℕ Refusal × ℕ). x.0) u) refl in
+      (c, ap (λ (x : Result ℕ Refusal × ℕ). x.1) u ∙ simp (le-leb _ _ c.inside))
+
+  pub verdict_uncounted : {m : Result ℕ Refusal} {w : Refusal} → header_of mobj s ≡ Ok tt → m ≡ count_read s → m ≡ Err w → (verdict_of s ≡ Err w) × (w ≡ BadBody)
   unfolding count_read
   verdict_uncounted {m} {w} head e f = go (leb (44 + be4 s 40) (length s)) refl (leb 78 (length s)) refl (sym e ∙ f)
     where
-      go : (a : Bool) → leb (44 + be4 s 40) (length s) ≡ a → (b : Bool) → leb 78 (length s) ≡ b → cond a (cond b (Ok (count_of s)) (Err BadBody)) (Err BadBody) ≡ Err w → verdict_of s ≡ Err w
+      go : (a : Bool) → leb (44 + be4 s 40) (length s) ≡ a → (b : Bool) → leb 78 (length s) ≡ b → cond a (cond b (Ok (count_of s)) (Err BadBody)) (Err BadBody) ≡ Err w → (verdict_of s ≡ Err w) × (w ≡ BadBody)
       go true p true q h = let z : ◌≡◌ {A = ℕ} 0 1 = cc in absurd (omega arith)
-      go true p false q h = verdict_last s head (omega (arith, leb-false _ _ q, place_from s (count_of s))) ∙ cc
-      go false p b q h = verdict_stated s head (leb-false _ _ p) ∙ cc
+      go true p false q h = (verdict_last s head (omega (arith, leb-false _ _ q, place_from s (count_of s))) ∙ cc, cc)
+      go false p b q h = (verdict_stated s head (leb-false _ _ p) ∙ cc, cc)
 
 -- ---- an object and its commands
 
@@ -253,6 +282,16 @@ module _ {s t : List ℕ} {n at k : ℕ} (w : Walking s n t at k) where
       record {
         judged = simp (lt-leb _ _ l, e);
         filled = λ f. let z : ◌≡◌ {A = ℕ} 0 1 = cc in absurd (omega arith);
+      }
+
+  -- the end of the walk
+  pub walk_ends : n ≤ k → Heads s n t (Ok tt)
+  walk_ends h =
+      let e : k ≡ n = omega (arith, w.passed) in
+      let l : place s n ≤ length s = omega (arith, w.inside, w.here ∙ ap (place s) e) in
+      record {
+        judged = simp (le-leb _ _ l);
+        filled = λ g. subst (λ (i : ℕ). Filled s i t) e w.filled;
       }
 
 -- what the walk answers in each case

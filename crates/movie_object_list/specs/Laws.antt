@@ -1,13 +1,14 @@
 -- Laws of the listing: how long its pieces are, and what is written one after the other. Assumes nothing.
 use Rattle.std.specs.Prelude.{◌≡◌, refl, cond, List, [], ◌∷◌, ◌++◌, ℕ, zero, suc, ◌+◌, ◌*◌, ◌-◌, ◌^◌, ◌≤◌, ◌<◌, eqb, leb, length, get_or, drop, Ok}
 use Rattle.std.proofs.Common.{sym, ap, ◌∙◌, subst, zero-add, arith, length-append, length-drop, length-take-le, le-leb, leb-true, leb-false}
+use Rattle.std.proofs.Math.Seq.{length-sets}
 use Rattle.std.proofs.lemmas.Bool.{lt-leb}
 use Rattle.laws.specs.Cases.{either_way, by_test}
 use Rattle.laws.specs.Firsts.{blocks, blocks_suc}
 use Rattle.common.specs.Rules.{be2}
 use Rattle.common.specs.Laws.{be2_below}
 use Rattle.text.specs.Rules.{bytes, numeral, blanks, right_in, place, Wrote}
-use Rattle.text.specs.Laws.{few_digits, near, then}
+use Rattle.text.specs.Laws.{few_digits, near, fitted, then}
 use Rattle.movie_object.specs.declared.MovieObject.{MovieObject}
 use Rattle.movie_object.specs.Rules.{place as place_of, count_of, verdict_of, part_at, commands_of, head_at, head_of}
 use Rattle.movie_object.specs.Laws.{object_in, commands_from}
@@ -97,9 +98,19 @@ text_length n o commands = length-append (heading_text n o) (blocks (line_text c
 
 -- ---- texts in a room
 
+pub wrote_length : {l t l' : List ℕ} {at r : ℕ} → Wrote l at t l' r → length l' ≡ length l
+wrote_length {l} {t} {l'} {at} {r} w = ap length w.held ∙ length-sets l at t
+
 -- one block more
 pub blocks_step : {l m l' : List ℕ} (f : ℕ → List ℕ) (i : ℕ) {at p r : ℕ} → Wrote l at (blocks f i) m p → Wrote m p (f i) l' r → Wrote l at (blocks f (i + 1)) l' r
 blocks_step {l} {m} {l'} f i {at} {p} {r} a b = subst (λ (t : List ℕ). Wrote l at t l' r) (sym (blocks_suc f i)) (then a b)
+
+-- a text that was written whole into a room of its own
+pub wrote_end : {l t l' : List ℕ} {r : ℕ} → Wrote l 0 t l' r → length t ≤ length l → r ≡ length t
+wrote_end {l} {t} {l'} {r} w h = (fitted w h').0 ∙ zero-add (length t)
+  where
+    h' : 0 + length t ≤ length l
+    h' = omega arith
 
 -- how long a text is, from where it ends
 pub written_length : {l t l' : List ℕ} {r : ℕ} → Wrote l 0 t l' r → length t < 2 ^ 64 → r ≡ length t

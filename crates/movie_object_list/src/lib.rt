@@ -20,7 +20,7 @@ const HEADING: usize = 96;
 // No line of an object is longer: its number takes at most 16 bytes, and a command's text 102.
 const LONGEST: usize = 118;
 
-// A text that is written from a place on, and a bound of its length.
+// A text that is written from a place on, how long it is, and a bound of that.
 trait Text: Copy {
     ghost sound: { Self → Type 0 };
 
@@ -29,6 +29,10 @@ trait Text: Copy {
     fn longest(self) -> usize
         requires { sound self }
         ensures { length (says self) ≤ result };
+
+    fn measured(self) -> usize
+        requires { sound self }
+        ensures { result ≡ length (says self) };
 
     fn put(self, out: &mut [u8], at: usize) -> usize
         requires { sound self }
@@ -58,6 +62,10 @@ impl<'a> Text for Object<'a> {
         longest_object(self.file, self.head, self.n)
     }
 
+    fn measured(self) -> usize {
+        object_length(self.file, self.head, self.n)
+    }
+
     // The heading and the lines.
     fn put(self, out: &mut [u8], at: usize) -> usize {
         let object = movie_object::head_at(self.file, self.head);
@@ -74,6 +82,10 @@ impl<'a> Text for Objects<'a> {
 
     fn longest(self) -> usize {
         longest_file(self.file)
+    }
+
+    fn measured(self) -> usize {
+        file_length(self.file)
     }
 
     // One walk of the heads: each object's text and a line end.
@@ -123,12 +135,12 @@ fn list_text<T: Text>(text: T, out: &mut [u8], at: usize) -> Result<usize, Refus
     }
 }
 
-// Whether a text lies within the room; it is measured, as it would be put into no room, only where its bound does not.
+// Whether a text lies within the room; it is measured only where its bound does not.
 fn fits<T: Text>(text: T, room: usize, at: usize) -> bool
     requires { T.sound text }
     ensures { result ≡ leb (at + length (T.says text)) room }
 {
-    at <= room && (text.longest() <= room - at || text.put(&mut [], 0) <= room - at)
+    at <= room && (text.longest() <= room - at || text.measured() <= room - at)
 }
 
 #[tactic(auto, using(crate::proofs::Lengths::object_short))]
@@ -146,6 +158,53 @@ fn longest_file(file: &[u8]) -> usize
     ensures { length (file_text file.now) ≤ result }
 {
     57 * (movie_object::count_of(file) as usize) + 10 * file.len()
+}
+
+// How long each text is.
+
+fn file_length(file: &[u8]) -> usize
+    requires { verdict_of file.now ≡ Ok tt }
+    ensures { result ≡ length (file_text file.now) }
+{
+    let mut sum = 0;
+    let mut head = 78;
+    for n in 0..movie_object::count_of(file) {
+        sum += object_length(file, head, n as u16) + 1;
+        head = next_head(file, head);
+    }
+    sum
+}
+
+fn object_length(file: &[u8], head: usize, n: u16) -> usize
+    requires { head + 4 + 12 * be2 file.now (head + 2) ≤ length file.now }
+    ensures { result ≡ length (text_at file.now head n) }
+{
+    let object = movie_object::head_at(file, head);
+    let commands = movie_object::part_at(file, head);
+    heading_length(n, object) + lines_length(commands, object.commands)
+}
+
+fn heading_length(n: u16, object: MovieObject) -> usize
+    ensures { result ≡ length (heading_text n object) }
+{
+    put_heading(&mut [0; HEADING], 0, n, object)
+}
+
+fn lines_length(commands: &[u8], lines: u16) -> usize
+    requires { 12 * lines ≤ length commands.now }
+    ensures { result ≡ length (blocks (line_text commands.now) lines) }
+{
+    let mut sum = 0;
+    for i in 0..lines {
+        sum += prefix_length(i) + nav_list::command_length(commands, 12 * (i as usize));
+    }
+    sum
+}
+
+fn prefix_length(i: u16) -> usize
+    ensures { result ≡ length (prefix_text i) }
+{
+    put_prefix(&mut [0; 16], 0, i)
 }
 
 // One walk of the heads: each object's text and a line end.

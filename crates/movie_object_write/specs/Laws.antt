@@ -3,6 +3,7 @@ use Rattle.std.specs.Prelude.{◌≡◌, Bool, true, false, not, List, [], ◌�
 use Rattle.std.proofs.Math.Path.{refl, ap}
 use Rattle.std.proofs.Common.{drop-drop, sym, ◌∙◌, add-one, arith}
 use Prim.Native.Nat.{ℕ, zero, suc, ◌+◌, ◌*◌, ◌-◌, ◌/◌, ◌%◌, ◌≤◌, ◌<◌}
+use Rattle.std.proofs.Math.Nat.{add-sub_cancel_left}
 use Rattle.std.proofs.Math.ListN.{length, get_or, length-append, length-drop}
 use Rattle.std.proofs.Math.Seq.{length-take-le}
 use borrow.Author.Tests.{le-leb, leb-true, eq-eqb, eqb-true, not-false}
@@ -174,6 +175,13 @@ objects_step l m m' flags counts commands k at t e was next =
     let o = length_object flags counts commands k t.from in
     over_next l m m' 78 _ _ at was next (omega (arith, d)) (omega (arith, d, o, t.room, t.more))
     ∙ ap (over l 78) (sym (blocks_suc (object flags counts commands) k))
+
+-- a part of the commands, from where it begins to where it ends
+pub cmds_part : (counts commands : List ℕ) (k from : ℕ) → from ≡ 12 * sum counts k → take (from + 12 * get_or counts k 0 - from) (drop from commands) ≡ cmds_at counts commands k
+unfolding cmds_at
+cmds_part counts commands k from e =
+    ap (λ (n : ℕ). take n (drop from commands)) (add-sub_cancel_left from (12 * get_or counts k 0))
+    ∙ ap (λ (n : ℕ). take (12 * get_or counts k 0) (drop n commands)) e
 
 -- the flags of object k, as the loop has them
 chunk_at : (m k : ℕ) (s d : List ℕ) → k < m → get_or (first_chunks 3 m s) k d ≡ take 3 (drop (3 * k) s)

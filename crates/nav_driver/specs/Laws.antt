@@ -1,6 +1,6 @@
 -- How a drive of titles unrolls. Assumes nothing.
-use Rattle.std.specs.Prelude.{◌≡◌, ◌≤◌, List, eqb, length, Ok}
-use Rattle.std.proofs.Common.{sym, ap, arith, sub-one}
+use Rattle.std.specs.Prelude.{◌≡◌, ◌≤◌, List, eqb, length, Ok, Err}
+use Rattle.std.proofs.Common.{sym, ap, ◌∙◌, arith, sub-one}
 use Prim.Native.Nat.{ℕ, zero, suc, ◌-◌, ◌<◌}
 use Rattle.laws.specs.Cases.{either_way}
 use Rattle.session.specs.declared.Session.{Session}
@@ -13,6 +13,9 @@ use Rattle.nav_driver.specs.declared.Follow.TheVariants.{Return, Jump, Call, Yie
 use Rattle.nav_driver.specs.declared.Turn.{Turn}
 use Rattle.nav_driver.specs.declared.Turn.TheVariants.{Go, Stop}
 use Rattle.nav_driver.specs.Rules.{Seeded, follows, jumped, called, returned, acted, object_side, Rooms, rooms, turn_of, titles_of, ended, verdict_for}
+use Rattle.nav_driver.specs.Pieces.{Settled}
+use Rattle.error.specs.Rules.{Verdict}
+use Rattle.error.specs.declared.Refusal.{Refusal}
 use Rattle.error.specs.Laws.{both_fine}
 use Rattle.session.specs.Rules.{buffers_verdict}
 use Rattle.session.specs.Laws.{buffers_room}
@@ -51,6 +54,20 @@ module _ (x file : List ℕ) (b : Budgets) where
   unfolding titles_of
   titles_go zero w s r f t e = absurd (turn_spent x file b w s (ap (λ (v : Rooms Turn). v.it) (sym e)))
   titles_go (suc left) w s r f t e = rw (← e, sub-one)
+
+-- a call that is refused settles nothing else
+pub settled_refused : {x file places gpr psr frames titles : List ℕ} {answer expected : Verdict} {r : Refusal} → answer ≡ Err r
+    → expected ≡ Err r → Settled x file places gpr psr frames titles answer expected
+settled_refused p q =
+    record {
+      judged = p ∙ sym q;
+      index = λ h. let z : ◌≡◌ {A = ℕ} 0 1 = cc in absurd (omega arith);
+      fine = λ h. let z : ◌≡◌ {A = ℕ} 0 1 = cc in absurd (omega arith);
+      placed = λ h. let z : ◌≡◌ {A = ℕ} 0 1 = cc in absurd (omega arith);
+      general = λ h. let z : ◌≡◌ {A = ℕ} 0 1 = cc in absurd (omega arith);
+      status = λ h. let z : ◌≡◌ {A = ℕ} 0 1 = cc in absurd (omega arith);
+      room = λ h. let z : ◌≡◌ {A = ℕ} 0 1 = cc in absurd (omega arith);
+    }
 
 -- what a call that is not refused has tested
 pub opened_rooms : (x file : List ℕ) (b : Budgets) (start : Start) (w : Rooms Session) → verdict_for x file b start w ≡ Ok tt → (length w.frames ≤ 131073) × (length w.titles ≤ 196610)

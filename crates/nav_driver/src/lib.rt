@@ -71,14 +71,14 @@ pub enum Start {
 
 // A disc whose two files are read. Only `Drop`, since it is lent.
 #[derive(Drop)]
-pub struct Disc<'a> {
+pub struct Disc<'a, 'p> {
     pub index: Index<'a>,
-    pub objects: ObjectTable<'a>,
+    pub objects: ObjectTable<'a, 'p>,
 }
 
-impl<'a> Disc<'a> {
+impl<'a, 'p> Disc<'a, 'p> {
     // Reads the index, then the object file, whose walk fills the table of places.
-    pub fn read(index: &'a [u8], file: &'a [u8], places: &'a mut [u32]) -> Result<Self, Refusal>
+    pub fn read(index: &'a [u8], file: &'a [u8], places: &'p mut [u32]) -> Result<Self, Refusal>
         requires { count_of file.now ≤ length places.old }
         ensures { Opens (first_of (verdict_of index.now) (objects_verdict file.now)) index.now file.now result }
     {
@@ -426,18 +426,18 @@ fn start_verdict(from: Start) -> Result<(), Refusal>
 
 // Tests what was handed in, in the order of the refusals, and reads the disc.
 #[tactic(auto, unfolding(crate::specs::Rules::verdict_for))]
-fn opened<'a>(
+fn opened<'a, 'p>(
     gpr: &[u32],
     psr: &[u32],
     frames: &[u32],
     titles: &[u32],
     index: &'a [u8],
     file: &'a [u8],
-    places: &'a mut [u32],
+    places: &'p mut [u32],
     s: Session,
     from: Start,
     b: Budgets,
-) -> Result<Disc<'a>, Refusal>
+) -> Result<Disc<'a, 'p>, Refusal>
     requires { count_of file.now ≤ length places.old }
     ensures { Opens (verdict_for index.now file.now b from (rooms s (banks gpr.now psr.now) frames.now titles.now)) index.now file.now result }
 {

@@ -1,12 +1,16 @@
 -- The live frames from the last one down, and what accepted rooms tell. Assumes nothing.
 use Rattle.std.specs.Prelude.{◌≡◌, refl, Bool, true, not, ◌||◌, ◌&&◌, List, leb, ltb, length, Ok}
-use Rattle.std.proofs.Common.{sym, arith, add-zero, add-one, add_assoc, add_comm, zero-add}
+use Rattle.std.proofs.Common.{sym, ap, ◌∙◌, arith, add-zero, add-one, add_assoc, add_comm, zero-add, le-leb}
 use Rattle.std.proofs.Math.Bool.{false, cond, and_assoc, and_comm}
 use Prim.Native.Nat.{ℕ, zero, suc, ◌+◌, ◌-◌, ◌≤◌, ◌<◌}
 use Rattle.std.proofs.Math.Numerals.{sub-one}
+use Rattle.std.proofs.lemmas.Bool.{lt-leb}
 use Rattle.std.proofs.lemmas.Bool.Decides.{nat_tests}
 use Rattle.error.specs.Laws.{not_refused}
+use Rattle.error.specs.Rules.{refused_if}
+use Rattle.error.specs.declared.Refusal.{Refusal}
 use Rattle.error.specs.declared.Refusal.TheVariants.{BadBuffer}
+use Rattle.session.specs.declared.ObjectFrame.{ObjectFrame}
 use Rattle.session.specs.declared.TitleFrame.{TitleFrame}
 use Rattle.session.specs.Rules.{object_frame, title_frame, bad_banks, bad_rooms, buffers_verdict, objects_live, titles_live}
 use Rattle.std.specs.List.{list_all, range_with_len}
@@ -20,6 +24,12 @@ module _ (f : List ℕ) (n d : ℕ) (some : 0 < d) where
       go zero h = absurd (omega arith)
       go (suc d) h = rw sub-one
 
+  pub object_off : {x : ObjectFrame} → x ≡ object_frame f (d - 1) → n ≤ x.object → false ≡ objects_live f n d
+  object_off {x} e h = sym (objects_step ∙ ap (λ (y : ObjectFrame). cond (leb n y.object) false (objects_live f n (d - 1))) (sym e) ∙ rw (le-leb n x.object h))
+
+  pub object_on : {x : ObjectFrame} → x ≡ object_frame f (d - 1) → x.object < n → objects_live f n (d - 1) ≡ objects_live f n d
+  object_on {x} e h = sym (objects_step ∙ ap (λ (y : ObjectFrame). cond (leb n y.object) false (objects_live f n (d - 1))) (sym e) ∙ rw (lt-leb n x.object h))
+
 module _ (t : List ℕ) (n d : ℕ) (some : 0 < d) where
   abbrev bad : TitleFrame → Bool
   bad x = ltb 65537 x.entry || leb n x.object
@@ -31,6 +41,23 @@ module _ (t : List ℕ) (n d : ℕ) (some : 0 < d) where
       go : (d : ℕ) → 0 < d → titles_live t n d ≡ cond (bad (title_frame t (d - 1))) false (titles_live t n (d - 1))
       go zero h = absurd (omega arith)
       go (suc d) h = rw sub-one
+
+  pub title_off : {x : TitleFrame} → x ≡ title_frame t (d - 1) → bad x ≡ true → false ≡ titles_live t n d
+  title_off e h = sym (titles_step ∙ ap (λ (y : TitleFrame). cond (bad y) false (titles_live t n (d - 1))) (sym e) ∙ rw h)
+
+  pub title_on : {x : TitleFrame} → x ≡ title_frame t (d - 1) → bad x ≡ false → titles_live t n (d - 1) ≡ titles_live t n d
+  title_on e h = sym (titles_step ∙ ap (λ (y : TitleFrame). cond (bad y) false (titles_live t n (d - 1))) (sym e) ∙ rw h)
+
+refused_fine : (b : Bool) (r : Refusal) → refused_if b r ≡ Ok tt → b ≡ false
+refused_fine = not_refused
+
+neither : (a b : Bool) → a || b ≡ false → (a ≡ false) × (b ≡ false)
+neither false b h = (refl, h)
+neither true b h = let z : ◌≡◌ {A = ℕ} 0 1 = cc in absurd (omega arith)
+
+not_false : (b : Bool) → not b ≡ false → b ≡ true
+not_false true h = refl
+not_false false h = let z : ◌≡◌ {A = ℕ} 0 1 = cc in absurd (omega arith)
 
 -- a test of each number below d, made from the first one up or from the last one down
 module _ (test : ℕ → Bool) where

@@ -178,21 +178,30 @@ pub fn entry_verdict(entry: u32) -> Result<(), Refusal>
     Refusal::NotAnEntry.refused_if(Session::TOP_MENU < entry)
 }
 
-// Whether the object of each of so many object frames is on a disc of `count` objects.
+// Whether the object of each of so many object frames, from the last one down, is on a disc of `count` objects.
 fn objects_live(frames: &[u32], depth: u32, count: u32) -> bool
     ensures { result ≡ objects_live frames.now count depth }
 {
-    (0..depth).all(|at| ObjectFrame::read(frames, at).object < count)
+    for at in (0..depth).rev() {
+        if count <= ObjectFrame::read(frames, at).object {
+            return false;
+        }
+    }
+    true
 }
 
-// Whether each of so many title frames has an entry, and an object on a disc of `count` objects.
+// Whether each of so many title frames, from the last one down, has an entry, and an object on a disc of `count` objects.
 fn titles_live(titles: &[u32], depth: u32, count: u32) -> bool
     ensures { result ≡ titles_live titles.now count depth }
 {
-    (0..depth).all(|at| {
+    for at in (0..depth).rev() {
         let frame = TitleFrame::read(titles, at);
-        frame.entry <= Session::TOP_MENU && frame.object < count
-    })
+        let bad = (Session::TOP_MENU < frame.entry) | (count <= frame.object);
+        if bad {
+            return false;
+        }
+    }
+    true
 }
 
 // Refusal 8: a bad session, on a disc of `count` objects, that waits for a resume or not.

@@ -16,6 +16,14 @@ bytes5 s at h =
     let e1 : take 4 (drop (at + 1) s) ≡ get_or s (at + 1) 0 ∷ get_or s (at + 2) 0 ∷ get_or s (at + 3) 0 ∷ get_or s (at + 4) 0 ∷ [] = part_cons s (at + 1) 3 (omega arith) ∙ rw (add_assoc at 1 1, e2) in
     part_cons s at 4 (omega arith) ∙ rw e1
 
+-- five bytes, by what each step of the scan left
+pub five : (s : List ℕ) (at : ℕ) (u1 u2 u3 u4 u5 : Option Scan) → at + 5 ≤ length s
+    → u1 ≡ step_of fresh (get_or s at 0) → u2 ≡ step_of u1 (get_or s (at + 1) 0) → u3 ≡ step_of u2 (get_or s (at + 2) 0)
+    → u4 ≡ step_of u3 (get_or s (at + 3) 0) → u5 ≡ step_of u4 (get_or s (at + 4) 0)
+    → is_utf8 (take 5 (drop at s)) ≡ is_whole u5
+unfolding is_utf8 scan_of
+five s at u1 u2 u3 u4 u5 h e1 e2 e3 e4 e5 = rw (bytes5 s at h, ← e1, ← e2, ← e3, ← e4, ← e5)
+
 -- bytes that no character begins with or goes on with stay so
 pub refused : (s : List ℕ) → scan_of None s ≡ false
 unfolding scan_of step_of

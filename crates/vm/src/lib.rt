@@ -361,10 +361,11 @@ fn check_budget(budget: u32) -> Result<(), Refusal>
 fn check(gpr: &[u32], psr: &[u32], commands: &[u8], budget: u32) -> Result<(), Refusal>
     ensures { result ≡ verdict_of commands.now budget (banks gpr.now psr.now) }
 {
-    registers::check_bank(Registers::GPR_COUNT, gpr)?;
-    registers::check_bank(Registers::PSR_COUNT, psr)?;
-    check_commands(commands)?;
-    check_budget(budget)
+    let general = registers::check_bank(Registers::GPR_COUNT, gpr);
+    let status = registers::check_bank(Registers::PSR_COUNT, psr);
+    let banks = error::first_of(general, status);
+    let handed = error::first_of(banks, check_commands(commands));
+    error::first_of(handed, check_budget(budget))
 }
 
 // A run on two lent banks.

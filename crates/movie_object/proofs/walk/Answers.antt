@@ -12,14 +12,13 @@ returns-in_err-skip_object c =
     let w = walk_stops c.loop-k.invariant.walked c.loop-k-test.true (moved_past _ (next c.loop-k.r.buf.now c.loop-k.r.pos) _ c.skip_object.ensures.answer c.in_err-skip_object.was) in
     rw (left_with _ c.from_residual.ensures.1, ← c.loop-k.invariant.same) w
 
-pub overflow_sub-size : goal.overflow_sub-size
+pub be16-commands-requires : goal.be16-commands-requires
 unfolding next
-overflow_sub-size c = omega (arith, c.in_ok-skip_object.ensures.here)
+be16-commands-requires c = rw c.skip_object.ensures.same (omega (arith, moved_to _ _ _ c.skip_object.ensures.answer c.in_ok-skip_object.was))
 
 pub skip_alike-at-requires : goal.skip_alike-at-requires
-unfolding next
 skip_alike-at-requires c =
     let s = c.skip_object.ensures.same in
     let here = c.in_ok-skip_object.ensures.here in
     let w = walk_on c.loop-k.invariant.walked c.loop-k-test.true c.put_place.ensures here (rw here (moved_to _ _ _ c.skip_object.ensures.answer c.in_ok-skip_object.was)) in
-    rw s (rw c.loop-k.invariant.same c.requires.0, omega (arith, here), w)
+    rw s (rw c.loop-k.invariant.same c.requires.0, w)

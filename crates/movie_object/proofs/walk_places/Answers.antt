@@ -11,7 +11,7 @@ returns-in_err-header c = walked_refused _ _ _ _ (left_with _ c.from_residual.en
 pub returns-in_err-count : goal.returns-in_err-count
 returns-in_err-count c =
     walked_refused _ _ _ _ (left_with _ c.from_residual-in_err-count.ensures.1)
-    (verdict_uncounted _ (sym c.header.ensures ∙ c.in_ok-header.was) (rw c.new-r.ensures.0 at c.read_count.ensures.read) c.in_err-count.was)
+    (verdict_uncounted _ (sym c.header.ensures ∙ c.in_ok-header.was) (rw c.new-r.ensures.0 at c.read_count.ensures.read) c.in_err-count.was).0
 
 pub walk-requires : goal.walk-requires
 walk-requires c =

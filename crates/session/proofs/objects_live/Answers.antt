@@ -1,12 +1,15 @@
-use Rattle.std.proofs.Common.{◌∙◌, ltb, refl, arith, rules}
-use Rattle.std.proofs.lemmas.Iterator.{YieldsList-from_range}
-use Rattle.std.proofs.lemmas.Iterator.Search.{all_from_yields_List}
-use borrow.Author.Tests.{tests}
-use Rattle.session.specs.Rules.{object_frame}
-use Rattle.session.specs.Laws.{objects_all}
+-- A frame tells the answer, or leaves it to those below it. Assumes nothing.
+use Rattle.std.proofs.Common.{◌≡◌, ◌∙◌, arith}
+use Rattle.session.specs.Rules.{objects_live}
+use Rattle.session.specs.Laws.{object_off, object_on}
 use Rattle.session.proofs.objects_live.Goals as goal
 
+pub returns-then-count-read : goal.returns-then-count-read
+returns-then-count-read c = object_off _ _ _ (omega arith) c.read.ensures c.if-count-read.true ∙ c.loop-at.invariant
+
+pub loop-at-preserved : goal.loop-at-preserved
+loop-at-preserved c = object_on _ _ _ (omega arith) c.read.ensures c.if-count-read.false ∙ c.loop-at.invariant
+
 pub returns : goal.returns
-returns c =
-    all_from_yields_List (λ k. ltb (object_frame c.args.frames.now k).object c.args.count) _ _ _ c.all.ensures.ran (YieldsList-from_range 0 c.args.depth c.args.depth refl (omega arith)) (λ x b q k. search (rules, tests))
-    ∙ objects_all _ _ _
+unfolding objects_live
+returns c = let none : c.loop-at.at ≡ 0 = omega arith in rw none at c.loop-at.invariant

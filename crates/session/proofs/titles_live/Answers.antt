@@ -1,12 +1,15 @@
-use Rattle.std.proofs.Common.{◌∙◌, ◌&&◌, ltb, leb, refl, arith, rules}
-use Rattle.std.proofs.lemmas.Iterator.{YieldsList-from_range}
-use Rattle.std.proofs.lemmas.Iterator.Search.{all_from_yields_List}
-use borrow.Author.Tests.{tests}
-use Rattle.session.specs.Rules.{title_frame}
-use Rattle.session.specs.Laws.{titles_all}
+-- A frame tells the answer, or leaves it to those below it. Assumes nothing.
+use Rattle.std.proofs.Common.{◌≡◌, ◌∙◌, arith}
+use Rattle.session.specs.Rules.{titles_live}
+use Rattle.session.specs.Laws.{title_off, title_on}
 use Rattle.session.proofs.titles_live.Goals as goal
 
+pub returns-then-bad : goal.returns-then-bad
+returns-then-bad c = title_off _ _ _ (omega arith) c.read-frame.ensures c.if-bad.true ∙ c.loop-at.invariant
+
+pub loop-at-preserved : goal.loop-at-preserved
+loop-at-preserved c = title_on _ _ _ (omega arith) c.read-frame.ensures c.if-bad.false ∙ c.loop-at.invariant
+
 pub returns : goal.returns
-returns c =
-    all_from_yields_List (λ k. leb (title_frame c.args.titles.now k).entry 65537 && ltb (title_frame c.args.titles.now k).object c.args.count) _ _ _ c.all.ensures.ran (YieldsList-from_range 0 c.args.depth c.args.depth refl (omega arith)) (λ x b q k. search (rules, tests))
-    ∙ titles_all _ _ _
+unfolding titles_live
+returns c = let none : c.loop-at.at ≡ 0 = omega arith in rw none at c.loop-at.invariant
