@@ -105,6 +105,8 @@ fn read_count(r: &mut Reader) -> Result<u16, Refusal>
 }
 
 // Whether n objects lie within the file; the places of all that were met are put into the table.
+// A function of its own also when compiled: there no branch of the loop over alike heads lies across a line of the processor's.
+#[inline(never)]
 fn walk(r: &mut Reader, n: u16, places: &mut [u32]) -> Result<(), Refusal>
     requires { (length r.old.buf.now ≤ 16777216) × (78 ≤ length r.old.buf.now) × (r.old.pos ≡ 78) }
     ensures { Heads r.old.buf.now n places.new result }
@@ -140,7 +142,7 @@ fn skip_alike(
     let size = 4 + 12 * usize::from(commands);
     let mut at = from;
     let mut i = k;
-    while i < n && size <= file.len() - at && be16(file, at + 2) == commands {
+    while i < n && at + size <= file.len() && be16(file, at + 2) == commands {
         put_place(places, i as usize, at as u32);
         at += size;
         i += 1;

@@ -2,7 +2,7 @@
 #![tactic(auto)]
 
 ghost use Rattle.std.specs.Prelude.{◌≡◌, ◌+◌, ◌≤◌, length};
-ghost use Rattle.nav_command.specs.Rules.{command_of};
+ghost use Rattle.nav_command.specs.Rules.{command_of, sub_of};
 ghost use Rattle.nav_command.specs.Rules as nav;
 ghost use Rattle.registers.specs.Lent.{held, Same};
 ghost use Rattle.registers.specs.Rules.{banks};
@@ -246,41 +246,45 @@ fn exec_compare(banks: &Banks, commands: &[u8], at: usize, pc: usize, count: usi
     compare(holds(code, x, y), pc, count)
 }
 
-#[tactic(auto, using(crate::proofs::Laws::no_set), unfolding(crate::specs::Pieces::as_set, crate::specs::Rules::exec_set))]
+// A Set of the first sub-group.
+#[tactic(auto, unfolding(crate::specs::Pieces::as_set, crate::specs::Rules::exec_set))]
 fn exec_set(banks: &mut Banks, commands: &[u8], at: usize, pc: usize) -> Stepped
-    requires { at + 12 ≤ length commands.now }
+    requires { (at + 12 ≤ length commands.now) × (sub_of (fetched commands.now at) ≡ 0) }
     ensures same { Same banks.old banks.new }
     ensures left { with (held banks.new) result ≡ as_set (fetched commands.now at) pc (held banks.old) }
 {
     let code = commands[at + 3];
-    match commands[at] % 8 {
-        0 => {
-            let a = first(commands, at);
-            let b = second(commands, at);
-            banks.set(code, a, b);
-            go_on(pc)
-        }
-        1 => {
-            let x = banks.value(first(commands, at));
-            let y = banks.value(second(commands, at));
-            system(code, x, y, pc)
-        }
-        _ => go_on(pc),
-    }
+    let a = first(commands, at);
+    let b = second(commands, at);
+    banks.set(code, a, b);
+    go_on(pc)
 }
 
-// Each group reads the operands that it needs.
-#[tactic(auto, unfolding(crate::specs::Pieces::as_branch, crate::specs::Pieces::as_compare, crate::specs::Pieces::as_set, crate::specs::Rules::exec_of, crate::specs::Rules::acted, nav_command::specs::Rules::command_of))]
+// A Set of the second: a request of the player.
+#[tactic(auto, unfolding(crate::specs::Pieces::as_set, crate::specs::Rules::exec_set))]
+fn exec_system(banks: &Banks, commands: &[u8], at: usize, pc: usize) -> Stepped
+    requires { (at + 12 ≤ length commands.now) × (sub_of (fetched commands.now at) ≡ 1) }
+    ensures { with (held banks.now) result ≡ as_set (fetched commands.now at) pc (held banks.now) }
+{
+    let code = commands[at + 3];
+    let x = banks.value(first(commands, at));
+    let y = banks.value(second(commands, at));
+    system(code, x, y, pc)
+}
+
+// By group and sub-group at once, so that a step branches once. Each reads the operands that it needs.
+#[tactic(auto, using(crate::proofs::Laws::no_set), unfolding(crate::specs::Pieces::as_branch, crate::specs::Pieces::as_compare, crate::specs::Pieces::as_set, crate::specs::Rules::exec_of, crate::specs::Rules::acted, nav_command::specs::Rules::command_of))]
 fn exec(banks: &mut Banks, commands: &[u8], at: usize, pc: usize, count: usize) -> Stepped
     requires { at + 12 ≤ length commands.now }
     ensures same { Same banks.old banks.new }
     ensures left { with (held banks.new) result
         ≡ exec_of (command_of (fetched commands.now at)) pc count (held banks.old) }
 {
-    match commands[at] / 8 % 4 {
-        0 => exec_branch(banks, commands, at, pc, count),
-        1 => exec_compare(banks, commands, at, pc, count),
-        2 => exec_set(banks, commands, at, pc),
+    match commands[at] % 32 {
+        0..=7 => exec_branch(banks, commands, at, pc, count),
+        8..=15 => exec_compare(banks, commands, at, pc, count),
+        16 => exec_set(banks, commands, at, pc),
+        17 => exec_system(banks, commands, at, pc),
         _ => go_on(pc),
     }
 }
@@ -312,15 +316,16 @@ fn what_next(step: Step) -> Next
     }
 }
 
-// Steps from a place on until the machine halts, asks for a transition or has spent its budget.
-pub fn run_commands(banks: &mut Banks, commands: &[u8], pc: usize, budget: u32) -> Ran
-    ensures same { Same banks.old banks.new }
-    ensures left { with (held banks.new) result ≡ run_of commands.now budget 0 pc (held banks.old) }
+// Steps from a place on until the machine halts, asks for a transition or has spent its budget. The banks are its own: through a reference each step would read anew where they stand.
+fn run_on(gpr: &mut [u32], psr: &mut [u32], commands: &[u8], pc: usize, budget: u32) -> Ran
+    ensures { after gpr.new psr.new result
+        ≡ run_of commands.now budget 0 pc (banks gpr.old psr.old) }
 {
+    let mut banks = Banks { gpr, psr };
     let mut at = pc;
     let mut skipped = false;
     for steps in 0..budget {
-        let stepped = obey(banks, commands, at);
+        let stepped = obey(&mut banks, commands, at);
         at = stepped.pc;
         match what_next(stepped.step) {
             Next::Go(skips) => skipped = skips,
@@ -340,6 +345,14 @@ pub fn run_commands(banks: &mut Banks, commands: &[u8], pc: usize, budget: u32) 
         steps: budget,
         skipped,
     }
+}
+
+// The same on banks that stand together.
+pub fn run_commands(banks: &mut Banks, commands: &[u8], pc: usize, budget: u32) -> Ran
+    ensures same { Same banks.old banks.new }
+    ensures left { with (held banks.new) result ≡ run_of commands.now budget 0 pc (held banks.old) }
+{
+    run_on(banks.gpr, banks.psr, commands, pc, budget)
 }
 
 // The public calls.
@@ -366,15 +379,6 @@ fn check(gpr: &[u32], psr: &[u32], commands: &[u8], budget: u32) -> Result<(), R
     let banks = error::first_of(general, status);
     let handed = error::first_of(banks, check_commands(commands));
     error::first_of(handed, check_budget(budget))
-}
-
-// A run on two lent banks.
-fn run_on(gpr: &mut [u32], psr: &mut [u32], commands: &[u8], pc: usize, budget: u32) -> Ran
-    ensures { after gpr.new psr.new result
-        ≡ run_of commands.now budget 0 pc (banks gpr.old psr.old) }
-{
-    let mut banks = Banks { gpr, psr };
-    run_commands(&mut banks, commands, pc, budget)
 }
 
 // The answer of a run that took one step.
